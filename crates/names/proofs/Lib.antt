@@ -1,0 +1,9 @@
+pub mod OnAnswers
+pub mod OnBytes
+pub mod OnWords
+pub mod OnNumbers
+pub mod OnNotes
+pub mod OnPlain
+pub mod OnTables
+pub mod Exact
+pub mod Examples

@@ -1,0 +1,7 @@
+pub mod Ascii
+pub mod Answers
+pub mod Words
+pub mod Numbers
+pub mod Midi
+pub mod Names
+pub mod Plain

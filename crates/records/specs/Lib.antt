@@ -1,0 +1,5 @@
+pub mod Le
+pub mod Layout
+pub mod Decoded
+pub mod Encoded
+pub mod Values

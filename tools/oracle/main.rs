@@ -1,0 +1,158 @@
+//! The original as judge. Reads the lines that the port's programs read and writes the lines that they must write.
+//!
+//!     oracle asks  < lines      names and times, a line each: see crates/asks
+//!     oracle ramps              ms_cycles at every permitted rate, against 01's whole numbers
+//!
+//! tools/oracle/build compiles it beside the unmodified source.
+use periph::inside;
+use std::io::{self, BufRead, BufWriter, Write};
+
+#[derive(Clone, Copy, PartialEq, Eq, Debug)]
+pub enum Board {
+    Fm1,
+    Smk37,
+}
+
+fn main() {
+    let words: Vec<String> = std::env::args().skip(1).collect();
+    match words.iter().map(|w| w.as_str()).collect::<Vec<_>>()[..] {
+        ["asks"] => asks(),
+        ["ramps"] => ramps(),
+        _ => {
+            eprintln!("usage: oracle asks < lines | oracle ramps");
+            std::process::exit(2);
+        }
+    }
+}
+
+/// Every line with ` = ` and its answer, `?` where it asks nothing; a line of more than 4,096 bytes is `? = ?`.
+fn asks() {
+    let mut out = BufWriter::new(io::stdout().lock());
+    for line in io::stdin().lock().split(b'\n') {
+        let line = line.unwrap();
+        let text = String::from_utf8_lossy(&line).into_owned();
+        if line.len() > 4096 {
+            out.write_all(b"? = ?\n").unwrap();
+        } else if text.trim_matches(' ').is_empty() || text.starts_with('#') {
+            continue;
+        } else {
+            out.write_all(&line).unwrap();
+            let words: Vec<&str> = text.split(' ').filter(|w| !w.is_empty()).collect();
+            writeln!(out, " = {}", ask(&words).unwrap_or("?".into())).unwrap();
+        }
+    }
+}
+
+fn ask(words: &[&str]) -> Option<String> {
+    let id = |found: Option<u8>| found.map_or("none".into(), |id| id.to_string());
+    let n = |k: usize| words.get(k).and_then(|w| number(w));
+    let n32 = |k: usize| n(k).and_then(|v| u32::try_from(v).ok());
+    let answer = match (words[0], words.len()) {
+        ("keyid", 2) => return name(words[1]).map(|s| id(s.and_then(|s| periph::key_id(&s)))),
+        ("encid", 2) => return name(words[1]).map(|s| id(s.and_then(|s| periph::enc_id(&s)))),
+        ("muldiv", 4) => inside::mul_div(n(1)?, n(2)?, n(3).filter(|&c| c != 0)?) as u64,
+        ("t4", 3) => inside::t4_count(hz(n32(2)?)?, n(1)?) as u64,
+        ("t5count", 3) => inside::t5_count(hz(n32(2)?)?, n(1).filter(|&c| c <= inside::t5_period(n(2).unwrap(), u32::MAX))?) as u64,
+        ("t5", 3) => inside::t5_period(hz(n32(2)?)?, n32(1)?),
+        ("count", 3) => inside::tmr_cycles_per_count(hz(n32(2)?)?, n32(1).filter(|&c| c < 16)?),
+        ("half", 3) => inside::half_period(hz(n32(2)?)?, n32(1).filter(|&l| l <= 0xffff)?),
+        ("timeout", 3) => inside::uart_timeout(hz(n32(2)?)?, n32(1)?),
+        ("byte", 2) => inside::midi_byte_time(hz(n32(1)?)?),
+        ("ms", 3) => inside::at(hz(n32(2)?)?, n(1).filter(|&c| c <= 1 << 53)?).ms(),
+        ("cycles", 3) => inside::at(hz(n32(2)?)?, 0).cycle_of_ms(n(1).filter(|&ms| ms <= 1 << 34)?),
+        ("press", 2) => inside::ms_cycles(hz(n32(1)?)?, 1.5),
+        ("release", 2) => inside::ms_cycles(hz(n32(1)?)?, 8.0),
+        ("pressure", 2) => inside::ms_cycles(hz(n32(1)?)?, 20.0),
+        ("spi1", 4) => inside::spi1(hz(n32(3)?)?, bytes(n32(1)?)?, baud(n32(2)?)?),
+        ("spi2", 4) => inside::spi2(hz(n32(3)?)?, bytes(n32(1)?)?, baud(n32(2)?)?),
+        ("record", 3) => return record(&bytes_of(words[1])?, n(2)?),
+        ("wdt", 2) => p33::P33::wdt_ms(n(1).and_then(|v| u8::try_from(v).ok())?),
+        _ => return None,
+    };
+    Some(answer.to_string())
+}
+
+/// 01's domain: what lies outside it is `?` in the port too.
+fn hz(hz: u32) -> Option<u64> {
+    (1_000_000..=800_000_000).contains(&hz).then_some(hz as u64)
+}
+
+fn bytes(n: u32) -> Option<u32> {
+    (n <= 65_536).then_some(n)
+}
+
+fn baud(n: u32) -> Option<u32> {
+    (n <= 16_383).then_some(n)
+}
+
+fn number(word: &str) -> Option<u64> {
+    word.bytes().all(|b| b.is_ascii_digit()).then(|| word.parse().ok())?
+}
+
+/// Pairs of hex digits, `-` for none.
+fn bytes_of(word: &str) -> Option<Vec<u8>> {
+    if word == "-" {
+        return Some(Vec::new());
+    }
+    if word.len() % 2 != 0 || !word.bytes().all(|b| b.is_ascii_hexdigit()) {
+        return None;
+    }
+    Some((0..word.len()).step_by(2).map(|i| u8::from_str_radix(&word[i..i + 2], 16).unwrap()).collect())
+}
+
+/// The outer `None`: no such thing. The inner: bytes that are no text, which name nothing.
+fn name(word: &str) -> Option<Option<String>> {
+    bytes_of(word).map(|bytes| String::from_utf8(bytes).ok())
+}
+
+/// The original has no records: this is document 01's layout, worked out a second time.
+fn record(bytes: &[u8], at: u64) -> Option<String> {
+    let s = bytes.get(at.min(bytes.len() as u64) as usize..).unwrap();
+    let broken = Some(format!("broken {at}"));
+    let number = |from: usize, k: usize| s[from..from + k].iter().rev().fold(0u64, |n, &b| n << 8 | b as u64);
+    if s.is_empty() {
+        return Some("end".into());
+    }
+    if s.len() < 4 {
+        return broken;
+    }
+    let kind = number(2, 2);
+    let long = match kind {
+        1 | 6 => 14,
+        2 => 17,
+        3 => 15,
+        4 | 5 => 13,
+        0x101 => 8,
+        0x102 | 0x103 => 12,
+        _ => return broken,
+    };
+    if number(0, 2) != long as u64 || s.len() < long || kind == 1 && s[13] > 1 {
+        return broken;
+    }
+    let what = match kind {
+        1 => format!("key {} {}", s[12], s[13]),
+        2 => format!("enc {} {}", s[12], number(13, 4) as u32 as i32),
+        3 => format!("adc {} {}", s[12], number(13, 2)),
+        4 => format!("midi {}", s[12]),
+        5 => format!("vel {}", s[12]),
+        6 => format!("pressure {} {}", s[12], s[13]),
+        0x101 => format!("read {}", number(4, 4)),
+        0x102 => format!("write {} {}", number(4, 4), number(8, 4)),
+        _ => format!("step {}", number(4, 8)),
+    };
+    let time = if kind < 7 { format!("{} ", number(4, 8)) } else { String::new() };
+    Some(format!("{time}{what} next {}", at + long as u64))
+}
+
+fn ramps() {
+    let mut apart = 0u64;
+    for hz in 1_000_000..=800_000_000u64 {
+        for (ms, whole) in [(1.5, 3 * hz / 2000), (8.0, hz / 125), (20.0, hz / 50)] {
+            if inside::ms_cycles(hz, ms) != whole {
+                apart += 1;
+                println!("{ms} ms at {hz} Hz: {} against {whole}", inside::ms_cycles(hz, ms));
+            }
+        }
+    }
+    println!("ms_cycles at 799,000,001 rates: {apart} differences");
+}
