@@ -65,4 +65,13 @@ pub mod inside {
         p.spi2_start(bytes, baud, true);
         p.spi2_next
     }
+
+    pub fn next_event(p: &Periph) -> u64 {
+        p.next_event()
+    }
+
+    /// The UART's interrupt line.
+    pub fn uart_line(p: &Periph) -> bool {
+        p.uart_irq
+    }
 }

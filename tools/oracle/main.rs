@@ -1,6 +1,6 @@
 //! The original as judge. Reads the lines that the port's programs read and writes the lines that they must write.
 //!
-//!     oracle asks  < lines      names and times, a line each: see crates/asks
+//!     oracle asks  < lines      names, times, records and the timed blocks, a line each: see crates/asks
 //!     oracle ramps              ms_cycles at every permitted rate, against 01's whole numbers
 //!
 //! tools/oracle/build compiles it beside the unmodified source.
@@ -16,7 +16,10 @@ pub enum Board {
 fn main() {
     let words: Vec<String> = std::env::args().skip(1).collect();
     match words.iter().map(|w| w.as_str()).collect::<Vec<_>>()[..] {
-        ["asks"] => asks(),
+        ["asks"] => {
+            let mut board = inside::at(240_000_000, 0);
+            lines(|words| ask(words).or_else(|| timed(&mut board, words)))
+        }
         ["ramps"] => ramps(),
         _ => {
             eprintln!("usage: oracle asks < lines | oracle ramps");
@@ -26,7 +29,7 @@ fn main() {
 }
 
 /// Every line with ` = ` and its answer, `?` where it asks nothing; a line of more than 4,096 bytes is `? = ?`.
-fn asks() {
+fn lines(mut answer: impl FnMut(&[&str]) -> Option<String>) {
     let mut out = BufWriter::new(io::stdout().lock());
     for line in io::stdin().lock().split(b'\n') {
         let line = line.unwrap();
@@ -38,7 +41,7 @@ fn asks() {
         } else {
             out.write_all(&line).unwrap();
             let words: Vec<&str> = text.split(' ').filter(|w| !w.is_empty()).collect();
-            writeln!(out, " = {}", ask(&words).unwrap_or("?".into())).unwrap();
+            writeln!(out, " = {}", answer(&words).unwrap_or("?".into())).unwrap();
         }
     }
 }
@@ -63,8 +66,8 @@ fn ask(words: &[&str]) -> Option<String> {
         ("press", 2) => inside::ms_cycles(hz(n32(1)?)?, 1.5),
         ("release", 2) => inside::ms_cycles(hz(n32(1)?)?, 8.0),
         ("pressure", 2) => inside::ms_cycles(hz(n32(1)?)?, 20.0),
-        ("spi1", 4) => inside::spi1(hz(n32(3)?)?, bytes(n32(1)?)?, baud(n32(2)?)?),
-        ("spi2", 4) => inside::spi2(hz(n32(3)?)?, bytes(n32(1)?)?, baud(n32(2)?)?),
+        ("spi1of", 4) => inside::spi1(hz(n32(3)?)?, bytes(n32(1)?)?, baud(n32(2)?)?),
+        ("spi2of", 4) => inside::spi2(hz(n32(3)?)?, bytes(n32(1)?)?, baud(n32(2)?)?),
         ("record", 3) => return record(&bytes_of(words[1])?, n(2)?),
         ("wdt", 2) => p33::P33::wdt_ms(n(1).and_then(|v| u8::try_from(v).ok())?),
         _ => return None,
@@ -142,6 +145,64 @@ fn record(bytes: &[u8], at: u64) -> Option<String> {
     };
     let time = if kind < 7 { format!("{} ", number(4, 8)) } else { String::new() };
     Some(format!("{time}{what} next {}", at + long as u64))
+}
+
+/// The registers of the timed blocks; any other address is none of theirs.
+fn timed_register(addr: u32) -> bool {
+    matches!(addr, 0x10800 | 0x10804 | 0x10808 | 0x10900 | 0x10904 | 0x10908 | 0x12100 | 0x12110 | 0x12118 | 0x1211c | 0x12120 | 0x12124 | 0x12128)
+        || matches!(addr, 0x12e00 | 0x12e04 | 0x12e08 | 0x12e0c | 0x12e1c | 0x12e20 | 0x1eef0ec | 0x1eef0f0 | 0x1eef0f4)
+        || (0x10400..0x10800).contains(&addr) && matches!(addr & 0xff, 0 | 4 | 8)
+}
+
+fn timed(p: &mut periph::Periph, words: &[&str]) -> Option<String> {
+    let n = |k: usize| words.get(k).and_then(|w| number(w));
+    let n32 = |k: usize| n(k).and_then(|v| u32::try_from(v).ok());
+    let flag = |k: usize| n(k).filter(|&v| v < 2).map(|v| v == 1);
+    let hex = |k: usize| words.get(k).filter(|w| w.len() <= 8 && w.bytes().all(|b| b.is_ascii_hexdigit())).and_then(|w| u32::from_str_radix(w, 16).ok());
+    let answer = match (words[0], words.len()) {
+        ("new", 2) => {
+            *p = inside::at(hz(n32(1)?)?, 0);
+            "0".into()
+        }
+        ("skip", 2) => {
+            p.skip_idle = flag(1)?;
+            "0".into()
+        }
+        ("read", 2) => {
+            let addr = hex(1).filter(|&a| timed_register(a))?;
+            let value = p.read(addr).map_or("none".into(), |v| format!("{v:08x}"));
+            if p.skip_idle { format!("{value} {} {}", p.cycles, p.skipped) } else { value }
+        }
+        ("write", 3) => (p.write(hex(1).filter(|&a| timed_register(a))?, hex(2)?) as u8).to_string(),
+        ("step", 2) => {
+            let due = p.advance(n(1).filter(|&n| n <= (1 << 53) - p.cycles)?);
+            let half = due.audio_half.map_or("-".into(), |(addr, words)| format!("{addr:08x}/{words}"));
+            let byte = due.uart_rx.map_or("-".into(), |(addr, b)| format!("{addr:08x}/{b:02x}"));
+            format!("{} {half} {byte}", p.cycles)
+        }
+        ("midi", 2) => {
+            p.apply(&periph::Action::Midi { b: n(1).and_then(|v| u8::try_from(v).ok())? });
+            "0".into()
+        }
+        ("spi1", 4) => {
+            p.spi1_start(bytes(n32(1)?)?, baud(n32(2)?)?, flag(3)?);
+            format!("{} {}", p.spi1_done_at, p.spi1_wire)
+        }
+        ("spi2", 4) => {
+            p.spi2_start(bytes(n32(1)?)?, baud(n32(2)?)?, flag(3)?);
+            "0".into()
+        }
+        ("spi1off", 1) => {
+            p.spi1_irq_off();
+            "0".into()
+        }
+        ("state", 1) => format!(
+            "clock {} skipped {} halves {} queued {} dropped {} line {} spi1 {} spi2 {} next {}",
+            p.cycles, p.skipped, p.audio_halves, p.midi_queued(), p.midi_dropped(), inside::uart_line(p) as u8, p.spi1_pending as u8, p.spi2_pending as u8, inside::next_event(p)
+        ),
+        _ => return None,
+    };
+    Some(answer)
 }
 
 fn ramps() {

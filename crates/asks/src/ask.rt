@@ -1,15 +1,18 @@
 // What a line asks, and its answer. Words are read in order; which question it is goes by their number and the first.
+use crate::blocks::Blocks;
 use crate::record::put_record;
-use crate::text::Number;
-use crate::text::Span;
-use crate::text::first;
-use crate::text::is;
-use crate::text::number_in;
-use crate::text::put_number;
-use crate::text::put_text;
-use crate::text::unhex;
-use crate::text::word;
+use crate::timed::Said;
 use names::Id;
+use text::Number;
+use text::Span;
+use text::Unhexed;
+use text::decimal_in;
+use text::first;
+use text::is;
+use text::put_decimal;
+use text::put_text;
+use text::unhex;
+use text::word;
 use times::Cycles;
 use times::Mhz6;
 use times::Mhz24;
@@ -22,15 +25,25 @@ pub enum Answer {
     Unknown,
 }
 
-pub fn put_answer(out: &mut [u8], at: usize, line: &[u8]) -> usize {
+// The answer where the line asks a leaf, else what the timed blocks say to it.
+pub fn put_answer(out: &mut [u8], at: usize, line: &[u8], queue: &mut [u8], b: Blocks) -> Said {
     let verb = word(line, 0);
     if is(line, verb, b"record") {
-        return put_found(out, at, line, word(line, verb.to));
+        return Said {
+            out: put_found(out, at, line, word(line, verb.to)),
+            blocks: b,
+        };
     }
     match ask(line) {
-        Answer::Number(n) => put_number(out, at, n),
-        Answer::Nothing => put_text(out, at, b"none"),
-        Answer::Unknown => put_text(out, at, b"?"),
+        Answer::Number(n) => Said {
+            out: put_decimal(out, at, n),
+            blocks: b,
+        },
+        Answer::Nothing => Said {
+            out: put_text(out, at, b"none"),
+            blocks: b,
+        },
+        Answer::Unknown => crate::timed::put_answer(out, at, line, queue, b),
     }
 }
 
@@ -62,7 +75,7 @@ fn of_one(line: &[u8], verb: Span, one: Span) -> Answer {
     if is(line, verb, b"encid") {
         return named(line, one, false);
     }
-    let Number::Is(n) = number_in(line, one) else {
+    let Number::Is(n) = decimal_in(line, one) else {
         return Answer::Unknown;
     };
     if is(line, verb, b"wdt") {
@@ -92,10 +105,10 @@ fn at_rate(line: &[u8], verb: Span, hz: u32) -> Answer {
 }
 
 fn of_two(line: &[u8], verb: Span, one: Span, two: Span) -> Answer {
-    let Number::Is(n) = number_in(line, one) else {
+    let Number::Is(n) = decimal_in(line, one) else {
         return Answer::Unknown;
     };
-    let Number::Is(r) = number_in(line, two) else {
+    let Number::Is(r) = decimal_in(line, two) else {
         return Answer::Unknown;
     };
     let hz = rate(r);
@@ -160,13 +173,13 @@ fn of_register(line: &[u8], verb: Span, n: u32, hz: u32) -> Answer {
 }
 
 fn of_three(line: &[u8], verb: Span, one: Span, two: Span, three: Span) -> Answer {
-    let Number::Is(a) = number_in(line, one) else {
+    let Number::Is(a) = decimal_in(line, one) else {
         return Answer::Unknown;
     };
-    let Number::Is(b) = number_in(line, two) else {
+    let Number::Is(b) = decimal_in(line, two) else {
         return Answer::Unknown;
     };
-    let Number::Is(c) = number_in(line, three) else {
+    let Number::Is(c) = decimal_in(line, three) else {
         return Answer::Unknown;
     };
     if is(line, verb, b"muldiv") {
@@ -185,10 +198,10 @@ fn of_three(line: &[u8], verb: Span, one: Span, two: Span, three: Span) -> Answe
     if hz == 0 {
         return Answer::Unknown;
     }
-    if is(line, verb, b"spi1") {
+    if is(line, verb, b"spi1of") {
         return Answer::Number(times::spi1_cycles(a as u32, b as u32, hz).0);
     }
-    if is(line, verb, b"spi2") {
+    if is(line, verb, b"spi2of") {
         return Answer::Number(times::spi2_cycles(a as u32, b as u32, hz).0);
     }
     Answer::Unknown
@@ -214,10 +227,9 @@ fn rate(n: u64) -> u32 {
 
 fn named(line: &[u8], w: Span, key: bool) -> Answer {
     let mut name = [0u8; 2048];
-    let n = unhex(line, w, &mut name);
-    if 2048 < n {
+    let Unhexed::Bytes(n) = unhex(line, w, &mut name) else {
         return Answer::Unknown;
-    }
+    };
     if key {
         return told(names::key_id(first(&name, n)));
     }
@@ -234,16 +246,15 @@ fn told(id: Id) -> Answer {
 // A record's bytes and an offset of them.
 fn put_found(out: &mut [u8], to: usize, line: &[u8], w: Span) -> usize {
     let mut bytes = [0u8; 2048];
-    let n = unhex(line, w, &mut bytes);
-    if 2048 < n {
+    let Unhexed::Bytes(n) = unhex(line, w, &mut bytes) else {
         return put_text(out, to, b"?");
-    }
+    };
     let place = word(line, w.to);
     let after = word(line, place.to);
     if after.to != after.from {
         return put_text(out, to, b"?");
     }
-    let Number::Is(at) = number_in(line, place) else {
+    let Number::Is(at) = decimal_in(line, place) else {
         return put_text(out, to, b"?");
     };
     put_record(out, to, first(&bytes, n), at as usize)

@@ -1,4 +1,4 @@
-// Names, times and records as lines of text: each line is answered with itself, ` = ` and the result, `?` where it asks nothing that
+// Names, times, records and the timed blocks as lines of text: each line is answered with itself, ` = ` and the result, `?` where it asks nothing that
 // is known here or lies outside 01's domain. The original answers the same lines (tools/oracle), so the two outputs must be
 // equal to the byte: crates/asks/stdout is the original's, tools/compare runs both on more.
 //
@@ -13,31 +13,50 @@
 //     byte HZ                         cycles of a MIDI byte
 //     ms CYCLES HZ, cycles MS HZ      milliseconds, both ways
 //     press HZ, release HZ, pressure HZ   the lengths of a key's ramps
-//     spi1 BYTES BAUD HZ, spi2 BYTES BAUD HZ   cycles of a transfer
+//     spi1of BYTES BAUD HZ, spi2of BYTES BAUD HZ   cycles of a transfer
 //     wdt CON                         the watchdog's milliseconds for a control byte
 //     record HEX AT                   the record at that offset of some bytes: time, action and where the next begins
 //
-// Words are separated by spaces, numbers are decimal. Empty lines and lines that begin with `#` answer nothing. A line of more
+// The timed blocks stand beside a clock, at 240 MHz from the start (addresses, values and bytes are hex):
+//
+//     new HZ, skip 0|1                the blocks anew; whether a TIMER4 poll may jump
+//     read A, write A V               a register: its value (with skipping on also the clock and what was skipped); 1 or 0
+//     step N                          the clock, the audio half (address/words or `-`), the byte (address/byte or `-`)
+//     midi B                          a byte into the jack
+//     spi1 BYTES BAUD IRQ, spi2 BYTES BAUD IRQ, spi1off   transfers: SPI1's end and its time on the wire
+//     state                           what no register shows
+//
+// Words are separated by spaces, other numbers are decimal. Empty lines and lines that begin with `#` answer nothing. A line of more
 // than 4,096 bytes is answered `? = ?`.
 mod ask;
+mod blocks;
 mod record;
-mod text;
+mod timed;
 
+use blocks::Blocks;
 use text::first;
 use text::put;
 use text::put_text;
+use timed::Said;
 
-// The line so far and the answers that wait.
-struct Places {
+// The line so far, the answers that wait, and the blocks.
+struct Went {
     line: usize,
-    out: usize,
+    said: Said,
 }
 
 fn main() {
     let mut input = [0u8; 65536];
     let mut line = [0u8; 4097];
     let mut out = [0u8; 65536];
-    let mut at = Places { line: 0, out: 0 };
+    let mut queue = [0u8; 3125];
+    let mut went = Went {
+        line: 0,
+        said: Said {
+            out: 0,
+            blocks: blocks::new(240_000_000),
+        },
+    };
     let mut turns = u64::MAX;
     while 0 < turns {
         turns = turns - 1;
@@ -45,64 +64,72 @@ fn main() {
         if got == 0 {
             break;
         }
-        at = chunk(first(&input, got), &mut line, &mut out, at);
+        went = chunk(first(&input, got), &mut line, &mut out, &mut queue, went);
     }
-    let last = ended(&line, &mut out, at);
+    let said = went.said;
+    let last = ended(&line, went.line, &mut out, &mut queue, said);
     flush(&out, last.out);
 }
 
-// The bytes of one read.
-fn chunk(input: &[u8], line: &mut [u8], out: &mut [u8], at: Places) -> Places {
-    let mut place = at;
+// The bytes of one read: a line's end answers it, any other byte joins the line. A full line is too long, and stays so.
+fn chunk(input: &[u8], line: &mut [u8], out: &mut [u8], queue: &mut [u8], went: Went) -> Went {
+    let mut n = went.line;
+    let mut said = went.said;
     let mut i: usize = 0;
     while i < input.len() {
-        place = fed(input[i], line, out, place);
+        let b = input[i];
         i = i + 1;
+        if b == b'\n' {
+            said = ended(line, n, out, queue, said);
+            n = 0;
+        } else {
+            n = put(line, n, b);
+        }
     }
-    place
-}
-
-// One byte: a line's end answers it, any other byte joins the line. A full line is too long, and stays so.
-fn fed(b: u8, line: &mut [u8], out: &mut [u8], at: Places) -> Places {
-    if b == b'\n' {
-        return ended(line, out, at);
-    }
-    Places {
-        line: put(line, at.line, b),
-        out: at.out,
+    Went {
+        line: n,
+        said: said,
     }
 }
 
 // The line is answered; what waits is written out before there could be no room for the next answer.
-fn ended(line: &[u8], out: &mut [u8], at: Places) -> Places {
-    let n = at.line;
-    let mut to = at.out;
+fn ended(line: &[u8], n: usize, out: &mut [u8], queue: &mut [u8], said: Said) -> Said {
+    let b = said.blocks;
+    let to = flushed(out, said.out);
+    if n < line.len() {
+        return answered(first(line, n), out, to, queue, b);
+    }
+    Said {
+        out: put_text(out, to, b"? = ?\n"),
+        blocks: b,
+    }
+}
+
+fn flushed(out: &[u8], to: usize) -> usize {
     if 57344 < to {
         flush(out, to);
-        to = 0;
+        return 0;
     }
-    if n < line.len() {
-        return Places {
-            line: 0,
-            out: answered(first(line, n), out, to),
-        };
-    }
-    Places {
-        line: 0,
-        out: put_text(out, to, b"? = ?\n"),
-    }
+    to
 }
 
 fn flush(out: &[u8], n: usize) {
     io::write_all(libc::STDOUT_FILENO, first(out, n));
 }
 
-fn answered(line: &[u8], out: &mut [u8], at: usize) -> usize {
+fn answered(line: &[u8], out: &mut [u8], at: usize, queue: &mut [u8], blocks: Blocks) -> Said {
     if text::is_passed_over(line) {
-        return at;
+        return Said {
+            out: at,
+            blocks: blocks,
+        };
     }
-    let said = put_text(out, at, line);
-    let equals = put_text(out, said, b" = ");
-    let told = ask::put_answer(out, equals, line);
-    put(out, told, b'\n')
+    let told = put_text(out, at, line);
+    let equals = put_text(out, told, b" = ");
+    let said = ask::put_answer(out, equals, line, queue, blocks);
+    let b = said.blocks;
+    Said {
+        out: put(out, said.out, b'\n'),
+        blocks: b,
+    }
 }

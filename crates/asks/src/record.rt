@@ -1,12 +1,12 @@
 // A record at an offset of some bytes, in words: its time and action, or what it orders, and where the next one begins.
-use crate::text::first;
-use crate::text::put;
-use crate::text::put_number;
-use crate::text::put_text;
 use records::Action;
 use records::Order;
 use records::RecordAt;
 use records::Wrote;
+use text::first;
+use text::put;
+use text::put_decimal;
+use text::put_text;
 
 // A record that does not come back as the bytes that it was read from has a star behind it.
 pub fn put_record(out: &mut [u8], to: usize, bytes: &[u8], at: usize) -> usize {
@@ -55,7 +55,7 @@ fn put_star(out: &mut [u8], to: usize, same: bool) -> usize {
 }
 
 fn put_timed(out: &mut [u8], to: usize, time: u64, action: Action) -> usize {
-    let when = put_number(out, to, time);
+    let when = put_decimal(out, to, time);
     match action {
         Action::Key { id, down } => {
             let told = put_word(out, when, b" key", id as u64);
@@ -93,14 +93,14 @@ fn put_order(out: &mut [u8], to: usize, order: Order) -> usize {
 fn put_word(out: &mut [u8], to: usize, word: &[u8], n: u64) -> usize {
     let said = put_text(out, to, word);
     let apart = put(out, said, b' ');
-    put_number(out, apart, n)
+    put_decimal(out, apart, n)
 }
 
 // A space and an i32, of which these are the bits.
 fn put_signed(out: &mut [u8], to: usize, bits: u32) -> usize {
     if base::i32_is_negative(bits) {
         let sign = put_text(out, to, b" -");
-        return put_number(out, sign, (base::wrapping_sub(0, bits)) as u64);
+        return put_decimal(out, sign, (base::wrapping_sub(0, bits)) as u64);
     }
     put_word(out, to, b"", bits as u64)
 }

@@ -6,22 +6,23 @@ use Rattle.asks.proofs.chunk.Statement.{statement}
 use Rattle.asks.proofs.chunk.Tie as tie
 
 abbrev Inv-loop : tie.InvT-loop
-Inv-loop input line₀ out₀ place₀ i₀ line out place i = (length line ≡ length line₀) × (length out ≡ length out₀)
+Inv-loop input line₀ out₀ queue₀ n₀ said₀ i₀ line out queue n said i =
+    (length line ≡ length line₀) × (length out ≡ length out₀) × (length queue ≡ length queue₀)
 
 abbrev μ-loop : tie.MeasureT-loop
-μ-loop input line₀ out₀ place₀ i₀ line out place i = length input - i
+μ-loop input line₀ out₀ queue₀ n₀ said₀ i₀ line out queue n said i = length input - i
 
 loop-holds : tie.Need-loop-holds Inv-loop μ-loop
 loop-holds c = search needs
 
-shared-slice-read-fed : tie.Need-shared-slice-read-fed Inv-loop μ-loop
-shared-slice-read-fed c = search needs
-
-fed-requires : tie.Need-fed-requires Inv-loop μ-loop
-fed-requires c κs = search needs
+shared-slice-read-b : tie.Need-shared-slice-read-b Inv-loop μ-loop
+shared-slice-read-b c = search needs
 
 add-i : tie.Need-add-i Inv-loop μ-loop
 add-i c = search needs
+
+ended-requires : tie.Need-ended-requires Inv-loop μ-loop
+ended-requires c κs = search needs
 
 loop-less : tie.Need-loop-less Inv-loop μ-loop
 loop-less c = search needs
@@ -29,11 +30,23 @@ loop-less c = search needs
 loop-again : tie.Need-loop-again Inv-loop μ-loop
 loop-again c = search needs
 
+put-requires : tie.Need-put-requires Inv-loop μ-loop
+put-requires c κs = search needs
+
+loop-less-2 : tie.Need-loop-less-2 Inv-loop μ-loop
+loop-less-2 c = search needs
+
+loop-again-2 : tie.Need-loop-again-2 Inv-loop μ-loop
+loop-again-2 c = search needs
+
 same-length : tie.Need-same-length Inv-loop μ-loop
 same-length c = search needs
 
 same-length-2 : tie.Need-same-length-2 Inv-loop μ-loop
 same-length-2 c = search needs
+
+same-length-3 : tie.Need-same-length-3 Inv-loop μ-loop
+same-length-3 c = search needs
 
 returns : tie.Need-returns Inv-loop μ-loop
 returns c = search needs
@@ -45,11 +58,15 @@ chunk-spec =
     Inv-loop
     μ-loop
     loop-holds
-    shared-slice-read-fed
-    fed-requires
+    shared-slice-read-b
     add-i
+    ended-requires
     loop-less
     loop-again
+    put-requires
+    loop-less-2
+    loop-again-2
     same-length
     same-length-2
+    same-length-3
     returns)

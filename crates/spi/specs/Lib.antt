@@ -1,0 +1,2 @@
+pub mod Spi
+pub mod Facts

@@ -1,0 +1,38 @@
+use Rattle.text.proofs.Places.{hex-digits}
+use native.Mathlib.Omega.{arith}
+use mathlib.Core.Path.{_∙_}
+use borrow.Author.Needs.{needs}
+use Rattle.text.proofs.put_hex.Statement.{statement}
+use Rattle.text.proofs.put_hex.Tie as tie
+
+hex-requires : tie.Need-hex-requires
+hex-requires c κs = search needs
+
+array-share-prefix-digits : tie.Need-array-share-prefix-digits
+array-share-prefix-digits c = search needs
+
+slice-aggregate-put-text : tie.Need-slice-aggregate-put-text
+slice-aggregate-put-text c = search needs
+
+put-text-requires : tie.Need-put-text-requires
+put-text-requires c κs = search needs
+
+same-length : tie.Need-same-length
+same-length c = search needs
+
+returns : tie.Need-returns
+returns c =
+    let k = c .before .before .before .before .before .hex .result in
+    let text = c .before .before .before .before .before .hex .ensures .1 .1 ∙ hex-digits (c .before .before .before .before .before .before .before .before .args .n) k (omega arith) (c .before .before .before .before .before .before .before .before .args .width) (c .before .before .before .before .before .hex .ensures .1 .0) in
+    (rw (← text) (c .before .before .put-text .ensures .0), rw (← text) (c .before .before .put-text .ensures .1))
+
+pub put-hex-spec : {M : Type 1} → statement M
+put-hex-spec =
+    tie.close
+    (tie.spec
+    hex-requires
+    array-share-prefix-digits
+    slice-aggregate-put-text
+    put-text-requires
+    same-length
+    returns)

@@ -1,0 +1,4 @@
+pub mod Putting
+pub mod Spans
+pub mod Numerals
+pub mod HexBytes
