@@ -71,80 +71,57 @@ con0Written a v now hz =
       len = a .len;
     }
 
--- 0x12e04 written
-abbrev pub con1Written : Audio → ℕ → Audio
-con1Written a v =
+-- 0x12e04, 0x12e08, 0x12e0c, 0x12e1c, 0x12e20: each reads as it is kept
+abbrev pub con1Read : Audio → ℕ
+con1Read a = a .con1
+
+abbrev pub pendRead : Audio → ℕ
+pendRead a = a .pend
+
+abbrev pub con3Read : Audio → ℕ
+con3Read a = a .con3
+
+abbrev pub adrRead : Audio → ℕ
+adrRead a = a .adr
+
+abbrev pub lenRead : Audio → ℕ
+lenRead a = a .len
+
+-- the block with other registers, its half and its deadline as they were
+abbrev pub withRegisters : Audio → ℕ → ℕ → ℕ → ℕ → ℕ → Audio
+withRegisters a con1 con3 pend adr len =
     record {
       next = a .next;
       halves = a .halves;
       half = a .half;
       con0 = a .con0;
-      con1 = bitAnd v 0xffff;
-      con3 = a .con3;
-      pend = a .pend;
-      adr = a .adr;
-      len = a .len;
+      con1 = con1;
+      con3 = con3;
+      pend = pend;
+      adr = adr;
+      len = len;
     }
+
+-- 0x12e04 written
+abbrev pub con1Written : Audio → ℕ → Audio
+con1Written a v = withRegisters a (bitAnd v 0xffff) (a .con3) (a .pend) (a .adr) (a .len)
 
 -- 0x12e08 written: bits 0 to 3 clear pendings 4 to 7
 abbrev pub pendWritten : Audio → ℕ → Audio
 pendWritten a v =
-    record {
-      next = a .next;
-      halves = a .halves;
-      half = a .half;
-      con0 = a .con0;
-      con1 = a .con1;
-      con3 = a .con3;
-      pend = bitAnd (a .pend) (2 ^ 32 - 1 - bitAnd v 0xf * 2 ^ 4 % 2 ^ 32);
-      adr = a .adr;
-      len = a .len;
-    }
+    withRegisters a (a .con1) (a .con3) (bitAnd (a .pend) (2 ^ 32 - 1 - bitAnd v 0xf * 2 ^ 4 % 2 ^ 32)) (a .adr) (a .len)
 
 -- 0x12e0c written
 abbrev pub con3Written : Audio → ℕ → Audio
-con3Written a v =
-    record {
-      next = a .next;
-      halves = a .halves;
-      half = a .half;
-      con0 = a .con0;
-      con1 = a .con1;
-      con3 = bitAnd v 0xff;
-      pend = a .pend;
-      adr = a .adr;
-      len = a .len;
-    }
+con3Written a v = withRegisters a (a .con1) (bitAnd v 0xff) (a .pend) (a .adr) (a .len)
 
 -- 0x12e1c written
 abbrev pub adrWritten : Audio → ℕ → Audio
-adrWritten a v =
-    record {
-      next = a .next;
-      halves = a .halves;
-      half = a .half;
-      con0 = a .con0;
-      con1 = a .con1;
-      con3 = a .con3;
-      pend = a .pend;
-      adr = v;
-      len = a .len;
-    }
+adrWritten a v = withRegisters a (a .con1) (a .con3) (a .pend) v (a .len)
 
 -- 0x12e20 written
 abbrev pub lenWritten : Audio → ℕ → Audio
-lenWritten a v =
-    record {
-      next = a .next;
-      halves = a .halves;
-      half = a .half;
-      con0 = a .con0;
-      con1 = a .con1;
-      con3 = a .con3;
-      pend = a .pend;
-      adr = a .adr;
-      len = bitAnd v 0xffff;
-    }
+lenWritten a v = withRegisters a (a .con1) (a .con3) (a .pend) (a .adr) (bitAnd v 0xffff)
 
 -- its part of a whole record: a deadline, "the audio half 0 or 1, lengths within their masks"
 abbrev pub audioWhole : Audio → Bool

@@ -3,7 +3,7 @@
 ghost use mathlib.Core.Path.{_≡_};
 ghost use mathlib.Core.Bool.{Bool};
 ghost use Prim.Native.Nat.{_*_, _%_, _^_, _≤_, min, max};
-ghost use Rattle.base.specs.Moments.{clockMax, isDeadline, rearmedOf, startedOf, switchedOf};
+ghost use Rattle.base.specs.Moments.{clockMax, isClock, isDeadline, rearmedOf, startedOf, switchedOf};
 ghost use Rattle.base.specs.Bits.{unlessOf, whenOf};
 ghost use Rattle.base.specs.Wrap.{minus32, times32};
 ghost use Rattle.base.specs.Signed.{isNegative, towardsZero};
@@ -69,6 +69,13 @@ pub const NEVER: u64 = 18446744073709551615;
 
 // The latest clock, 2^53.
 pub const CLOCK_MAX: u64 = 9007199254740992;
+
+// What a clock can be.
+pub fn is_clock(now: u64) -> bool
+    ensures { λ r. ⌜ r ≡ isClock now ⌝ }
+{
+    now <= CLOCK_MAX
+}
 
 // A deadline is at most 2^63, or never.
 pub fn is_deadline(d: u64) -> bool

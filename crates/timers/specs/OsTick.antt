@@ -36,6 +36,10 @@ unfoldable pub tickCnt : Tick → ℕ → ℕ → ℕ
 tickCnt t now hz =
     cond (eqb (t .next) never) 0 (mulDiv (min (now - t .start) (tickPeriod hz)) (t .prd) (tickPeriod hz))
 
+-- 0x1eef0f4 reads as it is kept
+abbrev pub tickPrd : Tick → ℕ
+tickPrd t = t .prd
+
 -- 0x1eef0ec written: bit 6 acknowledges, bit 0 starts a period or stops it; bits 0 to 5 are kept
 unfoldable pub tickCtlWritten : Tick → ℕ → ℕ → ℕ → Tick
 tickCtlWritten t v now hz =

@@ -45,6 +45,10 @@ unfoldable pub tmrCnt : Tmr → ℕ → ℕ → ℕ
 tmrCnt t now hz =
     cond (eqb (t .next) never) (t .cnt0) ((t .cnt0 + (now - t .start) / tmrPerCount t hz % 2 ^ 32) % 2 ^ 32)
 
+-- +8 reads as it is kept
+abbrev pub tmrPrd : Tmr → ℕ
+tmrPrd t = t .prd
+
 -- after a write it starts anew from CNT if it is on (CON bits 0, 1) and has a period; else it has no deadline
 unfoldable pub tmrArmed : Tmr → ℕ → ℕ → Tmr
 tmrArmed t now hz =

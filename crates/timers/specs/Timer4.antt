@@ -12,6 +12,10 @@ use Rattle.timers.specs.declared.timer4.Polled.{Polled}
 abbrev pub t4New : T4
 t4New = record { base = 0; «last_cnt_read» = 0; con = 0; «cnt_streak» = 0 }
 
+-- 0x10800 reads as it is kept
+abbrev pub t4Con : T4 → ℕ
+t4Con t = t .con
+
 -- 0x10804: the 24 MHz counts since the base, the low 32 bits; 0 while it is off
 unfoldable pub t4Cnt : T4 → ℕ → ℕ → ℕ
 t4Cnt t now hz = cond (eqb (bitAnd (t .con) 1) 0) 0 (mhz24OfCycles (now - t .base) hz)

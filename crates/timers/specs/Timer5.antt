@@ -33,6 +33,10 @@ t5Cnt t now hz =
     (cond (ltb (t .next) now) 0
     ((t5Period t hz - min (t .next - now) (t5Period t hz)) * t5Hz / hz % max (t .prd) 1)))
 
+-- 0x10908 reads as it is kept
+abbrev pub t5Prd : T5 → ℕ
+t5Prd t = t .prd
+
 -- 0x10900 written: bit 14 acknowledges, bit 0 starts a period or stops it; bits 14 and 15 are not kept
 unfoldable pub t5ConWritten : T5 → ℕ → ℕ → ℕ → T5
 t5ConWritten t v now hz =

@@ -269,21 +269,37 @@ con0Written u v =
       count = u .count;
     })
 
--- 0x1211c written: "the ring's start resets the DMA's write position"
-abbrev pub rxsadrWritten : Uart → ℕ → Uart
-rxsadrWritten u v =
+-- 0x1211c, 0x12120, 0x12124, 0x12110, 0x12128: each reads as it is kept
+abbrev pub rxsadrRead : Uart → ℕ
+rxsadrRead u = u .rxsadr
+
+abbrev pub rxeadrRead : Uart → ℕ
+rxeadrRead u = u .rxeadr
+
+abbrev pub rxcntRead : Uart → ℕ
+rxcntRead u = u .rxcnt
+
+abbrev pub otcntRead : Uart → ℕ
+otcntRead u = u .otcnt
+
+abbrev pub hrxcntRead : Uart → ℕ
+hrxcntRead u = u .hrxcnt
+
+-- the record with another ring for the DMA, its write place, and other counts
+abbrev pub withRing : Uart → ℕ → ℕ → ℕ → ℕ → ℕ → Uart
+withRing u rxsadr rxeadr wr rxcnt otcnt =
     record {
       next = u .next;
       «ot_next» = u .«ot_next»;
       dropped = u .dropped;
       con0 = u .con0;
-      rxsadr = v;
-      rxeadr = u .rxeadr;
-      rxcnt = u .rxcnt;
-      otcnt = u .otcnt;
+      rxsadr = rxsadr;
+      rxeadr = rxeadr;
+      rxcnt = rxcnt;
+      otcnt = otcnt;
       hrxcnt = u .hrxcnt;
       since = u .since;
-      wr = 0;
+      wr = wr;
       rpnd = u .rpnd;
       otpnd = u .otpnd;
       tpnd = u .tpnd;
@@ -291,75 +307,22 @@ rxsadrWritten u v =
       place = u .place;
       count = u .count;
     }
+
+-- 0x1211c written: "the ring's start resets the DMA's write position"
+abbrev pub rxsadrWritten : Uart → ℕ → Uart
+rxsadrWritten u v = withRing u v (u .rxeadr) 0 (u .rxcnt) (u .otcnt)
 
 -- 0x12120 written
 abbrev pub rxeadrWritten : Uart → ℕ → Uart
-rxeadrWritten u v =
-    record {
-      next = u .next;
-      «ot_next» = u .«ot_next»;
-      dropped = u .dropped;
-      con0 = u .con0;
-      rxsadr = u .rxsadr;
-      rxeadr = v;
-      rxcnt = u .rxcnt;
-      otcnt = u .otcnt;
-      hrxcnt = u .hrxcnt;
-      since = u .since;
-      wr = u .wr;
-      rpnd = u .rpnd;
-      otpnd = u .otpnd;
-      tpnd = u .tpnd;
-      irq = u .irq;
-      place = u .place;
-      count = u .count;
-    }
+rxeadrWritten u v = withRing u (u .rxsadr) v (u .wr) (u .rxcnt) (u .otcnt)
 
 -- 0x12124 written
 abbrev pub rxcntWritten : Uart → ℕ → Uart
-rxcntWritten u v =
-    record {
-      next = u .next;
-      «ot_next» = u .«ot_next»;
-      dropped = u .dropped;
-      con0 = u .con0;
-      rxsadr = u .rxsadr;
-      rxeadr = u .rxeadr;
-      rxcnt = bitAnd v 0xffff;
-      otcnt = u .otcnt;
-      hrxcnt = u .hrxcnt;
-      since = u .since;
-      wr = u .wr;
-      rpnd = u .rpnd;
-      otpnd = u .otpnd;
-      tpnd = u .tpnd;
-      irq = u .irq;
-      place = u .place;
-      count = u .count;
-    }
+rxcntWritten u v = withRing u (u .rxsadr) (u .rxeadr) (u .wr) (bitAnd v 0xffff) (u .otcnt)
 
 -- 0x12110 written
 abbrev pub otcntWritten : Uart → ℕ → Uart
-otcntWritten u v =
-    record {
-      next = u .next;
-      «ot_next» = u .«ot_next»;
-      dropped = u .dropped;
-      con0 = u .con0;
-      rxsadr = u .rxsadr;
-      rxeadr = u .rxeadr;
-      rxcnt = u .rxcnt;
-      otcnt = v;
-      hrxcnt = u .hrxcnt;
-      since = u .since;
-      wr = u .wr;
-      rpnd = u .rpnd;
-      otpnd = u .otpnd;
-      tpnd = u .tpnd;
-      irq = u .irq;
-      place = u .place;
-      count = u .count;
-    }
+otcntWritten u v = withRing u (u .rxsadr) (u .rxeadr) (u .wr) (u .rxcnt) v
 
 -- 0x12118 written, whatever it is: "sent at once", so TX pends
 unfoldable pub txcntWritten : Uart → Uart
