@@ -1,9 +1,14 @@
 //! The original as judge. Reads the lines that the port's programs read and writes the lines that they must write.
 //!
 //!     oracle asks  < lines      names, times, records and the timed blocks, a line each: see crates/asks
+//!     oracle panels < lines    interrupts, the front panel and the converter, a line each: see crates/panels
+//!     oracle calls  < lines    the board's calls, a line each: see crates/calls
 //!     oracle ramps              ms_cycles at every permitted rate, against 01's whole numbers
 //!
 //! tools/oracle/build compiles it beside the unmodified source.
+mod calls;
+mod panels;
+
 use periph::inside;
 use std::io::{self, BufRead, BufWriter, Write};
 
@@ -20,9 +25,18 @@ fn main() {
             let mut board = inside::at(240_000_000, 0);
             lines(|words| ask(words).or_else(|| timed(&mut board, words)))
         }
+        ["panels"] => {
+            // the two parts know nothing of each other: a board each
+            let (mut irqs, mut front) = (inside::at(240_000_000, 0), inside::at(240_000_000, 0));
+            lines(|words| panels::irqs(&mut irqs, words).or_else(|| panels::front(&mut front, words)))
+        }
+        ["calls"] => {
+            let mut ports = calls::Ports::default();
+            lines(|words| calls::answer(&mut ports, words))
+        }
         ["ramps"] => ramps(),
         _ => {
-            eprintln!("usage: oracle asks < lines | oracle ramps");
+            eprintln!("usage: oracle asks < lines | oracle panels < lines | oracle calls < lines | oracle ramps");
             std::process::exit(2);
         }
     }

@@ -1,6 +1,6 @@
 use Rattle.timers.specs.Timer.{noTmr, tmrsAt}
 use Rattle.timers.specs.declared.timer.Tmr.{Tmr}
-use Rattle.base.proofs.Four.{four}
+use Rattle.base.proofs.Spread.{spread}
 use mathlib.Core.List.{List}
 use mathlib.Core.Path.{_≡_, ap, sym}
 use lib.ListN.{length}
@@ -38,7 +38,7 @@ returns c =
     let a = c .before .before .before .before .before .before .before .before .args in
     let e : length (a .t1) ≡ 4 = search needs in
     rw (c .before .before .before .before .before .before .at .ensures, c .before .before .before .before .at2 .ensures, c .before .before .at3 .ensures, c .at4 .ensures)
-    (sym (ap (λ (l : List Tmr). tmrsAt l (a .now) (a .hz)) (four noTmr (a .t1) e)))
+    (sym (ap (λ (l : List Tmr). tmrsAt l (a .now) (a .hz)) (spread noTmr 4 (a .t1) e)))
 
 pub tmrs-at-spec : {M : Type 1} → statement M
 tmrs-at-spec =

@@ -1,0 +1,4 @@
+pub mod Banks
+pub mod Quiet
+pub mod Right
+pub mod Vectors

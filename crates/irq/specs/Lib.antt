@@ -1,0 +1,5 @@
+pub mod Banks
+pub mod Latch
+pub mod Sources
+pub mod Choice
+pub mod Right

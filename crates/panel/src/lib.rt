@@ -1,0 +1,27 @@
+mod encoder;
+mod keys;
+mod led;
+mod map;
+mod matrix;
+mod pins;
+
+pub use encoder::Enc;
+pub use encoder::encs_at;
+pub use encoder::encs_closed;
+pub use encoder::encs_next;
+pub use encoder::encs_turned;
+pub use encoder::encs_whole;
+pub use keys::Keys;
+pub use keys::Pressed;
+pub use keys::Ramps;
+pub use led::Taken;
+pub use led::credit;
+pub use led::led_take;
+pub use led::times_whole;
+pub use map::Map;
+pub use map::fm1;
+pub use matrix::closed_rows;
+pub use matrix::is_down;
+pub use matrix::pa_in;
+pub use matrix::pb_in;
+pub use pins::Pins;
