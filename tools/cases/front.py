@@ -60,6 +60,22 @@ def con(rng):
     return channel << 8 | rng.choice([0x50, 0x50, 0x50, 0x70, 0x70, 0x40, 0x60, 0x10, 0x20, 0xD0, 0xFFFFF0FF, rng.getrandbits(8)])
 
 
+def pressed(rng, rate):
+    """A key pressed, leaned on or let go, its column selected, and conversions along the way."""
+    row, channel = rng.choice([(ROW3, 0), (ROW4, 1)])
+    column = rng.randrange(11)
+    key = row[column]
+    begun = [f"vel {rng.randrange(1, 128)}", f"key {key} 1"], [f"key {key} 0"], [f"pressure {key} {rng.randrange(1, 128)}"]
+    level = rng.choice([0, ROW])
+    yield from latched(rng.choice([0xFFFF ^ 1 << column, 0xFFFF ^ 1 << column, 0, columns(rng)]), level)
+    yield from drive(rng.choice([*DRIVES]))
+    for lines in rng.choices(begun, k=rng.choice([1, 2, 3])):
+        yield from lines
+        for _ in range(rng.choice([1, 2, 5])):
+            yield f"step {rng.choice([0, 1, rng.randrange(PRESS(rate)), rng.randrange(RELEASE(rate)), rng.randrange(PRESSURE(rate))])}"
+            yield from (f"write 13100 {channel << 8 | rng.choice([0x50, 0x70]):x}", "read 13104", f"force {key}")
+
+
 def change(rng, rate):
     kind = rng.random()
     key = rng.choice([*ROW3, *ROW4, *range(41), rng.randrange(256)])
@@ -110,7 +126,9 @@ def run(rng, count):
         yield f"step {rng.choice([(1 << 53) - 4 * rate, 1 << 52, rng.getrandbits(50)])}"
     for _ in range(count):
         kind = rng.random()
-        if kind < 0.25:
+        if kind < 0.05:
+            yield from pressed(rng, rate)
+        elif kind < 0.25:
             yield from scan(rng)
         elif kind < 0.65:
             yield from change(rng, rate)
@@ -206,9 +224,9 @@ def stored(rng):
     yield "# The front panel and the converter: 01's vectors, lines that ask nothing, random runs, lit LEDs, whole ramps."
     yield from vectors()
     yield from limits()
-    for _ in range(24):
-        yield from run(rng, 120)
-    for _ in range(6):
+    for _ in range(10):
+        yield from run(rng, 100)
+    for _ in range(4):
         yield from lights(rng)
     for kind in (35, 51, 132, 312, 10000):
         yield from ramps(rng, 240_000_000, kind, rng.randrange(1, 128), (18_000, 240_000, 96_000))

@@ -68,15 +68,11 @@ impl Ramps {
         requires { ⌜ i < 41 ⌝ }
         ensures { λ r. ⌜ r ≡ rampOf self i ⌝ }
     {
-        let t0 = self.t0;
-        let dur = self.dur;
-        let from = self.from;
-        let to = self.to;
         Ramp {
-            from: from[i],
-            to: to[i],
-            t0: t0[i],
-            dur: dur[i] as u64,
+            from: self.from[i],
+            to: self.to[i],
+            t0: self.t0[i],
+            dur: self.dur[i] as u64,
         }
     }
 

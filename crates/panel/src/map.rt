@@ -126,7 +126,6 @@ impl Map {
         requires { ⌜ (row < 6) × (col < 11) ⌝ }
         ensures { λ r. ⌜ r ≡ idAt self row col ⌝ }
     {
-        let ids = self.ids;
-        ids[row * 11 + col]
+        self.ids[row * 11 + col]
     }
 }

@@ -1,7 +1,7 @@
 // The front panel and the converter beside a clock, as the board will hold them: a harness that drives each through its registers, actions and steps, and
 // nothing more. What a block requires is tested here before the call, so that nothing of a whole record has to be known.
+use crate::asked::Act;
 use adc::Adc;
-use adc::Wrote;
 use base::CLOCK_MAX;
 use panel::Enc;
 use panel::Keys;
@@ -87,7 +87,7 @@ impl Front {
     }
 
     // A chip reset's part: the ports and the converter.
-    pub fn reset(mut self) -> Self {
+    fn reset(mut self) -> Self {
         let pins = self.pins.chip_reset();
         self.pins = pins;
         let adc = Adc::new();
@@ -136,7 +136,12 @@ impl Front {
 
     fn rows(self) -> u32 {
         let e = self.enc;
-        panel::closed_rows(fm1(), self.keys.down, panel::encs_closed(e), self.pins.sr_latched)
+        panel::closed_rows(
+            fm1(),
+            self.keys.down,
+            panel::encs_closed(e),
+            self.pins.sr_latched,
+        )
     }
 
     pub fn read_pa(self) -> u32 {
@@ -175,7 +180,26 @@ impl Front {
 
     // ---- actions
 
-    pub fn key(mut self, id: u8, down: bool) -> Self {
+    pub fn acted(self, act: Act) -> Self {
+        match act {
+            Act::New(hz) => new(hz),
+            Act::Reset => self.reset(),
+            Act::Byte(b) => self.shifted(b),
+            Act::Key { id, down } => self.key(id, down),
+            Act::Vel(vel) => self.key_vel(vel),
+            Act::Pressure { id, vel } => self.pressure(id, vel),
+            Act::Enc { enc, clicks } => self.turned(enc, clicks),
+            Act::Value { ch, v } => self.value_set(ch, v),
+        }
+    }
+
+    fn shifted(mut self, b: u8) -> Self {
+        let p = self.pins.sr_shift_byte(b);
+        self.pins = p;
+        self
+    }
+
+    fn key(mut self, id: u8, down: bool) -> Self {
         let now = self.clock;
         let hz = self.hz;
         let ramps = self.ramps;
@@ -193,7 +217,7 @@ impl Front {
         self
     }
 
-    pub fn pressure(mut self, id: u8, vel: u8) -> Self {
+    fn pressure(mut self, id: u8, vel: u8) -> Self {
         let now = self.clock;
         let hz = self.hz;
         let ramps = self.ramps;
@@ -205,20 +229,20 @@ impl Front {
         self
     }
 
-    pub fn key_vel(mut self, vel: u8) -> Self {
+    fn key_vel(mut self, vel: u8) -> Self {
         let keys = self.keys.key_vel(vel);
         self.keys = keys;
         self
     }
 
-    pub fn turned(mut self, enc: u8, clicks: u32) -> Self {
+    fn turned(mut self, enc: u8, clicks: u32) -> Self {
         let e = self.enc;
         let after = panel::encs_turned(e, enc, clicks, self.clock);
         self.enc = after;
         self
     }
 
-    pub fn value_set(mut self, ch: u8, v: u16) -> Self {
+    fn value_set(mut self, ch: u8, v: u16) -> Self {
         let values = self.values;
         let after = adc::value_set(values, ch, v);
         self.values = after;

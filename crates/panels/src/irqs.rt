@@ -160,10 +160,7 @@ impl Irqs {
 
 // Nothing is put: the line asks nothing of the interrupts.
 fn unknown(to: usize, s: Irqs) -> Told {
-    Told {
-        out: to,
-        irqs: s,
-    }
+    Told { out: to, irqs: s }
 }
 
 fn done(out: &mut [u8], to: usize, s: Irqs) -> Told {

@@ -14,7 +14,25 @@
 //     enabled CORE N                  whether the core has the interrupt enabled
 //     pending                         whether anything pends
 //
+// The front panel and the converter (front.rt), with a clock of their own:
+//
+//     new HZ                          everything as at power-on, the clock at 0
+//     step N                          N cycles on, served: the clock after it
+//     read A                          50004, 50044, 13100 or 13104
+//     write A V                       ports 50000, 501c0 and 50008, 50010, 50018, 5001c: 1 where the source handles it, else 0; 13104: 1;
+//                                     13100: 1, whether `next_due` is set to 0, and the noise after it
+//     srbyte B                        a byte (hex) into the column registers
+//     key ID DOWN, vel V, pressure ID V, enc E CLICKS, adc CH VALUE
+//                                     the actions; CLICKS may have a minus
+//     led                             the light is taken: the span, ` ID:CYCLES` for each that was lit, and a full stop
+//     light                           the times so far, which stay
+//     force ID                        a key's force now: the f32's bits
+//     state, encs                     what no register shows; of each encoder state, states to go (hex, an i32's bits) and when
+//     reset                           a chip reset's part
+//     sweep COUNT STEP CON            COUNT times (2000 at most) a step and a write of CON: the samples, three hex digits each, and the noise
+//
 // Words are separated by spaces. Empty lines and lines that begin with `#` answer nothing. A line of more than 4,096 bytes is answered `? = ?`.
+mod asked;
 mod front;
 mod irqs;
 mod panel_lines;
@@ -158,10 +176,10 @@ fn answered(
         };
     }
     let to = repeated(out, at, line);
-    asked(line, out, to, icfg, icfg1, state)
+    told(line, out, to, icfg, icfg1, state)
 }
 
-fn asked(
+fn told(
     line: &[u8],
     out: &mut [u8],
     to: usize,
@@ -187,9 +205,9 @@ fn repeated(out: &mut [u8], at: usize, line: &[u8]) -> usize {
 
 // A line that asks nothing of the interrupts.
 fn of_front(out: &mut [u8], to: usize, line: &[u8], w: Words, irqs: Irqs, front: Front) -> Said {
-    let asked = panel_lines::put_answer(out, to, line, w, front);
-    let after = asked.front;
-    let at = known(out, to, asked.out);
+    let said = panel_lines::put_answer(out, to, asked::asked(line, w), front);
+    let after = said.front;
+    let at = known(out, to, said.out);
     ready(out, at, irqs, after)
 }
 

@@ -1,20 +1,13 @@
-// What a line asks of the front panel and the converter, and the answer.
-use crate::front;
+// The answers to what is asked of the front panel and the converter.
+use crate::asked::Ask;
+use crate::asked::Show;
 use crate::front::Converted;
 use crate::front::Front;
 use crate::front::Lit;
-use crate::words::Word32;
-use crate::words::Words;
-use crate::words::decimal32;
-use crate::words::hex32;
-use crate::words::signed32;
 use adc::Adc;
 use base::CLOCK_MAX;
 use panel::Enc;
 use panel::Pins;
-use text::Number;
-use text::decimal_in;
-use text::is;
 use text::put;
 use text::put_decimal;
 use text::put_hex;
@@ -26,12 +19,24 @@ pub struct Told {
     pub front: Front,
 }
 
-// Nothing is put: the line asks nothing of the front.
-fn unknown(to: usize, f: Front) -> Told {
-    Told {
-        out: to,
-        front: f,
+// Nothing is put where nothing is asked.
+pub fn put_answer(out: &mut [u8], to: usize, ask: Ask, f: Front) -> Told {
+    match ask {
+        Ask::Act(a) => done(out, to, f.acted(a)),
+        Ask::Show(s) => Told {
+            out: put_shown(out, to, s, f),
+            front: f,
+        },
+        Ask::Step(n) => put_step(out, to, n, f),
+        Ask::Write { addr, v } => put_write(out, to, addr, v, f),
+        Ask::Sweep { count, step, con } => put_sweep(out, to, count, step, con, f),
+        Ask::Led => put_led(out, to, f.led()),
+        Ask::None => unknown(to, f),
     }
+}
+
+fn unknown(to: usize, f: Front) -> Told {
+    Told { out: to, front: f }
 }
 
 fn done(out: &mut [u8], to: usize, f: Front) -> Told {
@@ -48,128 +53,23 @@ fn handled(out: &mut [u8], to: usize, f: Front) -> Told {
     }
 }
 
-pub fn put_answer(out: &mut [u8], to: usize, line: &[u8], w: Words, f: Front) -> Told {
-    let n = w.count;
-    if n == 1 {
-        return put_one(out, to, line, w, f);
+fn put_shown(out: &mut [u8], to: usize, show: Show, f: Front) -> usize {
+    match show {
+        Show::Register(addr) => put_read(out, to, addr, f),
+        Show::Force(id) => put_hex(out, to, f.force(id) as u64, 8),
+        Show::Light => {
+            let acc = f.acc;
+            put_times(out, to, &acc)
+        }
+        Show::State => put_state(out, to, f),
+        Show::Encs => {
+            let e = f.enc;
+            put_encs(out, to, e)
+        }
     }
-    if n == 2 {
-        return put_two(out, to, line, w, f);
-    }
-    if n == 3 {
-        return put_three(out, to, line, w, f);
-    }
-    if n == 4 {
-        return put_sweep(out, to, line, w, f);
-    }
-    unknown(to, f)
 }
 
-fn put_one(out: &mut [u8], to: usize, line: &[u8], w: Words, f: Front) -> Told {
-    let verb = w.verb;
-    if is(line, verb, b"led") {
-        return put_led(out, to, f.led());
-    }
-    if is(line, verb, b"light") {
-        let acc = f.acc;
-        return Told {
-            out: put_times(out, to, &acc),
-            front: f,
-        };
-    }
-    if is(line, verb, b"state") {
-        return Told {
-            out: put_state(out, to, f),
-            front: f,
-        };
-    }
-    if is(line, verb, b"encs") {
-        let e = f.enc;
-        return Told {
-            out: put_encs(out, to, e),
-            front: f,
-        };
-    }
-    if is(line, verb, b"reset") {
-        return done(out, to, f.reset());
-    }
-    unknown(to, f)
-}
-
-fn put_two(out: &mut [u8], to: usize, line: &[u8], w: Words, f: Front) -> Told {
-    let verb = w.verb;
-    if is(line, verb, b"step") {
-        return put_step(out, to, decimal_in(line, w.one), f);
-    }
-    if is(line, verb, b"read") {
-        return put_read(out, to, hex32(line, w.one), f);
-    }
-    if is(line, verb, b"srbyte") {
-        return put_byte(out, to, hex32(line, w.one), f);
-    }
-    let Word32::Is(one) = decimal32(line, w.one) else {
-        return unknown(to, f);
-    };
-    if is(line, verb, b"new") {
-        return put_new(out, to, one, f);
-    }
-    if 255 < one {
-        return unknown(to, f);
-    }
-    if is(line, verb, b"vel") {
-        return done(out, to, f.key_vel(one as u8));
-    }
-    if is(line, verb, b"force") {
-        return put_force(out, to, one as u8, f);
-    }
-    unknown(to, f)
-}
-
-fn put_three(out: &mut [u8], to: usize, line: &[u8], w: Words, f: Front) -> Told {
-    let verb = w.verb;
-    if is(line, verb, b"write") {
-        return put_write(out, to, hex32(line, w.one), hex32(line, w.two), f);
-    }
-    let Word32::Is(one) = decimal32(line, w.one) else {
-        return unknown(to, f);
-    };
-    if 255 < one {
-        return unknown(to, f);
-    }
-    if is(line, verb, b"enc") {
-        return put_enc(out, to, one as u8, signed32(line, w.two), f);
-    }
-    let Word32::Is(two) = decimal32(line, w.two) else {
-        return unknown(to, f);
-    };
-    if is(line, verb, b"key") {
-        return put_key(out, to, one as u8, two, f);
-    }
-    if is(line, verb, b"pressure") {
-        return put_pressure(out, to, one as u8, two, f);
-    }
-    if is(line, verb, b"adc") {
-        return put_value(out, to, one as u8, two, f);
-    }
-    unknown(to, f)
-}
-
-// ---- the clock
-
-fn put_new(out: &mut [u8], to: usize, hz: u32, f: Front) -> Told {
-    if hz < 1_000_000 {
-        return unknown(to, f);
-    }
-    if 800_000_000 < hz {
-        return unknown(to, f);
-    }
-    done(out, to, front::new(hz))
-}
-
-fn put_step(out: &mut [u8], to: usize, n: Number, f: Front) -> Told {
-    let Number::Is(n) = n else {
-        return unknown(to, f);
-    };
+fn put_step(out: &mut [u8], to: usize, n: u64, f: Front) -> Told {
     if CLOCK_MAX < f.clock {
         return unknown(to, f);
     }
@@ -185,33 +85,20 @@ fn put_step(out: &mut [u8], to: usize, n: Number, f: Front) -> Told {
 
 // ---- registers
 
-fn put_read(out: &mut [u8], to: usize, addr: Word32, f: Front) -> Told {
-    let Word32::Is(a) = addr else {
-        return unknown(to, f);
-    };
-    let at = match a {
+fn put_read(out: &mut [u8], to: usize, addr: u32, f: Front) -> usize {
+    match addr {
         0x50004 => put_hex(out, to, f.read_pa() as u64, 8),
         0x50044 => put_hex(out, to, f.read_pb() as u64, 8),
         0x13100 => put_hex(out, to, f.adc.read_con() as u64, 8),
         0x13104 => put_hex(out, to, f.adc.read_res() as u64, 8),
         _ => to,
-    };
-    Told {
-        out: at,
-        front: f,
     }
 }
 
 // The answer says whether the write is handled, as the source does: port A's settings are also kept as plain registers.
-fn put_write(out: &mut [u8], to: usize, addr: Word32, value: Word32, f: Front) -> Told {
-    let Word32::Is(a) = addr else {
-        return unknown(to, f);
-    };
-    let Word32::Is(v) = value else {
-        return unknown(to, f);
-    };
+fn put_write(out: &mut [u8], to: usize, addr: u32, v: u32, f: Front) -> Told {
     let p = f.pins;
-    match a {
+    match addr {
         0x50000 => handled(out, to, f.write_pa(v)),
         0x501c0 => handled(out, to, f.write_ph(v)),
         0x50008 => set_pins(out, to, f, p.write_dir(v)),
@@ -243,58 +130,7 @@ fn put_converted(out: &mut [u8], to: usize, c: Converted) -> Told {
     put_noise(out, flag, f)
 }
 
-// ---- actions
-
-fn put_byte(out: &mut [u8], to: usize, byte: Word32, f: Front) -> Told {
-    let Word32::Is(b) = byte else {
-        return unknown(to, f);
-    };
-    if 255 < b {
-        return unknown(to, f);
-    }
-    let p = f.pins;
-    set_pins(out, to, f, p.sr_shift_byte(b as u8))
-}
-
-fn put_key(out: &mut [u8], to: usize, id: u8, down: u32, f: Front) -> Told {
-    if 1 < down {
-        return unknown(to, f);
-    }
-    done(out, to, f.key(id, down == 1))
-}
-
-fn put_pressure(out: &mut [u8], to: usize, id: u8, vel: u32, f: Front) -> Told {
-    if 255 < vel {
-        return unknown(to, f);
-    }
-    done(out, to, f.pressure(id, vel as u8))
-}
-
-fn put_value(out: &mut [u8], to: usize, ch: u8, v: u32, f: Front) -> Told {
-    if 65535 < v {
-        return unknown(to, f);
-    }
-    done(out, to, f.value_set(ch, v as u16))
-}
-
-fn put_enc(out: &mut [u8], to: usize, enc: u8, clicks: Word32, f: Front) -> Told {
-    let Word32::Is(c) = clicks else {
-        return unknown(to, f);
-    };
-    done(out, to, f.turned(enc, c))
-}
-
 // ---- what no register shows
-
-fn put_force(out: &mut [u8], to: usize, id: u8, f: Front) -> Told {
-    if 40 < id {
-        return unknown(to, f);
-    }
-    Told {
-        out: put_hex(out, to, f.force(id) as u64, 8),
-        front: f,
-    }
-}
 
 // The span, and each LED that was lit.
 fn put_led(out: &mut [u8], to: usize, l: Lit) -> Told {
@@ -388,19 +224,7 @@ fn put_turn(out: &mut [u8], to: usize, e: Enc) -> usize {
 
 // ---- many conversions
 
-fn put_sweep(out: &mut [u8], to: usize, line: &[u8], w: Words, f: Front) -> Told {
-    if !is(line, w.verb, b"sweep") {
-        return unknown(to, f);
-    }
-    let Word32::Is(count) = decimal32(line, w.one) else {
-        return unknown(to, f);
-    };
-    let Word32::Is(step) = decimal32(line, w.two) else {
-        return unknown(to, f);
-    };
-    let Word32::Is(con) = hex32(line, w.three) else {
-        return unknown(to, f);
-    };
+fn put_sweep(out: &mut [u8], to: usize, count: u32, step: u32, con: u32, f: Front) -> Told {
     // an answer has to find room
     if 2000 < count {
         return unknown(to, f);

@@ -4,23 +4,16 @@ use mathlib.Core.Path.{sym, subst, _∙_}
 use borrow.Author.Needs.{needs}
 use Rattle.panels.proofs.front.short.Statement.{statement}
 use Rattle.panels.proofs.front.short.Tie as tie
-use Rattle.panels.proofs.front.short.Reads as reads
-use Rattle.panels.proofs.front.short.Lts as lts
-use Rattle.panel.proofs.keys.Ramps.whole.Reads as whole-reads
 
--- src/front.rt:64:9
 returns : tie.Need-returns
 returns c = λ e. absurd (subst T (sym e) tt)
 
--- src/front.rt:67:9
 returns-2 : tie.Need-returns-2
 returns-2 c = λ e. absurd (subst T (sym e) tt)
 
--- src/front.rt:69:5
 whole-requires : tie.Need-whole-requires
 whole-requires c κs = search needs
 
--- src/front.rt:60:1
 returns-3 : tie.Need-returns-3
 returns-3 c = λ e. whole-short (c .before .before .before .args .ramps) (c .before .before .before .args .now) (c .before .before .before .args .hz) (c .before .before .if1 .left) (c .before .if2 .left) (sym (c .whole .ensures) ∙ e)
 

@@ -2,40 +2,28 @@ use Rattle.panels.proofs.Number.{number-from}
 use borrow.Author.Needs.{needs}
 use Rattle.panels.proofs.front.Front.force.Statement.{statement}
 use Rattle.panels.proofs.front.Front.force.Tie as tie
-use Rattle.panels.proofs.front.Front.force.Reads as reads
-use Rattle.panels.proofs.front.Front.force.Lts as lts
-use Rattle.panel.proofs.keys.Ramps.ramp.Reads as ramp-reads
-use Rattle.pressure.proofs.ramp.Ramp.at.Reads as at-reads
 
--- src/front.rt:253:13
 returns : tie.Need-returns
 returns c = search needs
 
--- src/front.rt:256:13
 ramp-requires : tie.Need-ramp-requires
 ramp-requires c κs = search needs
 
--- src/front.rt:258:13
 returns-2 : tie.Need-returns-2
 returns-2 c = search needs
 
--- src/front.rt:261:13
 returns-3 : tie.Need-returns-3
 returns-3 c = search needs
 
--- src/front.rt:263:13
 at-requires : tie.Need-at-requires
 at-requires c κs = search needs
 
--- src/front.rt:265:20
 float-to-bits-result : tie.Need-float-to-bits-result
 float-to-bits-result c = number-from (c .before .at .result) (c .if4 .taken)
 
--- src/front.rt:265:13
 returns-4 : tie.Need-returns-4
 returns-4 c = search needs
 
--- src/front.rt:251:5
 returns-5 : tie.Need-returns-5
 returns-5 c = search needs
 
