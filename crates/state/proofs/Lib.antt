@@ -1,0 +1,3 @@
+pub mod Parts
+pub mod Facts
+pub mod New
