@@ -1,4 +1,4 @@
-"""Lines for crates/calls: the port over good, damaged and random transfers, resets, events and looks at all registers; a few names."""
+"""Lines for crates/calls (the board's are in board.py): the port over good, damaged and random transfers, resets, events and looks at all registers; a few names."""
 
 CON, DAT = 0x13E08, 0x13E0C
 REGISTERS = [0x80, 0x80, 0x80, 0xA0, 0xA0, 0x12, 0x17, 0x00, 0x3FF, 0x180, 0x280]
@@ -76,7 +76,7 @@ def change(rng):
 
 NOT_CALLS = [
     "p33", "p33 new 1", "p33 write 13e08", "p33 write 13e08 1 1", "p33 write 123456789 0", "p33 write g 0", "p33 reset 256", "p33 reset -1", "p33 read",
-    "p33 reg 65536 0", "p33 reg 0 2", "p33 reg 128", "p33 ms 256", "p33 ms", "p33 event 0", "P33 new", "p34 new", "keyid", "keyid 4", "keyid 46 33", "new 240000000", "step", "state",
+    "p33 reg 65536 0", "p33 reg 0 2", "p33 reg 128", "p33 ms 256", "p33 ms", "p33 event 0", "P33 new", "p34 new", "keyid", "keyid 4", "keyid 46 33", "step",
 ]
 
 

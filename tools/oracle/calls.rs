@@ -1,11 +1,20 @@
-//! The lines of crates/calls, answered by the original: the port's and the names'.
+//! The lines of crates/calls, answered by the original: the board's (board.rs), the port's and the names'.
+use crate::ask;
+use crate::board::{self, Board};
 use crate::p33::{Event, P33};
-use crate::{ask, number};
+use crate::words::{byte, flag, half, hex};
 
-#[derive(Default)]
-pub struct Ports {
+/// What the calls are carried out on.
+pub struct On {
+    pub board: Board,
     port: P33,
     kept: P33,
+}
+
+impl On {
+    pub fn new() -> Self {
+        On { board: Board::new(240_000_000).unwrap(), port: P33::default(), kept: P33::default() }
+    }
 }
 
 /// con, dat, step, cmd, addr, changed: the snap's own numbers, as it prints itself.
@@ -28,17 +37,17 @@ fn sum(bytes: &[u8]) -> u64 {
     bytes.iter().fold(0xcbf29ce484222325, |h, &b| (h ^ b as u64).wrapping_mul(0x100000001b3))
 }
 
-pub fn answer(p: &mut Ports, words: &[&str]) -> Option<String> {
+pub fn answer(on: &mut On, words: &[&str]) -> Option<String> {
+    on.board.near = false;
     match words {
         ["keyid" | "encid", _] => ask(words),
-        ["p33", call @ ..] => port(p, call),
-        _ => None,
+        ["p33", call @ ..] => port(on, call),
+        _ => board::answer(&mut on.board, words),
     }
 }
 
-fn port(p: &mut Ports, call: &[&str]) -> Option<String> {
-    let hex = |w: &str| (w.len() <= 8 && w.bytes().all(|b| b.is_ascii_hexdigit())).then(|| u32::from_str_radix(w, 16).ok())?;
-    let byte = |w: &str| number(w).and_then(|n| u8::try_from(n).ok());
+/// Its COUNT is out of reach: no list of lines changes a register 2^62 times.
+fn port(p: &mut On, call: &[&str]) -> Option<String> {
     let done = Some("0".into());
     match call {
         ["new"] => p.port = P33::default(),
@@ -55,8 +64,7 @@ fn port(p: &mut Ports, call: &[&str]) -> Option<String> {
             })
         }
         ["reg", addr, rtc] => {
-            let addr = number(addr).and_then(|n| u16::try_from(n).ok())?;
-            return Some(format!("{:02x}", p.port.reg(addr, number(rtc).filter(|&f| f < 2)? == 1)));
+            return Some(format!("{:02x}", p.port.reg(half(addr)?, flag(rtc)?)));
         }
         ["ms", con] => return Some(P33::wdt_ms(byte(con)?).to_string()),
         ["snap"] => return Some(snap(&p.port).join(" ")),

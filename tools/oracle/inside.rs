@@ -150,4 +150,55 @@ pub mod inside {
         let held = format!("down {} vel {} noise {} done {} line {}", down, p.key_vel, p.adc_noise, p.adc_done as u8, p.adc_irq as u8);
         format!("clock {} shift {} latched {} {light} {held}", p.cycles, p.sr_shift, p.sr_latched)
     }
+
+    // ---- the board
+
+    /// The call's answer, unless `late` holds of the board after it: then the call is taken back. For calls that do no more than move the clock.
+    pub fn unless<T>(p: &mut Periph, call: impl FnOnce(&mut Periph) -> T, late: impl FnOnce(&Periph) -> bool) -> Option<T> {
+        let was = (p.cycles, p.skipped, p.next_due, p.cnt_streak, p.last_cnt_read);
+        let answer = call(p);
+        if late(p) {
+            (p.cycles, p.skipped, p.next_due, p.cnt_streak, p.last_cnt_read) = was;
+            return None;
+        }
+        Some(answer)
+    }
+
+    /// A conversion of the channel now would work out a value below 1023: a row that is pulled up or driven high, with a key on it selected.
+    pub fn pressed(p: &Periph, ch: u32) -> bool {
+        let (row, pin) = match ch {
+            0 => (3, 0x80),
+            1 => (4, 0x100),
+            _ => return false,
+        };
+        let driven = if p.pa_dir & pin == 0 { p.pa_out & pin != 0 } else { p.pa_pu & pin != 0 };
+        driven && (0..11).any(|col| p.sr_latched & 1 << col == 0 && p.key_force[KEYMAP[row][col] as usize].at(p.cycles) > 0.001)
+    }
+
+    /// What document 01's word 'whole' says that does not hold of the board.
+    pub fn broken(p: &Periph) -> Option<&'static str> {
+        let deadlines = [p.t5_next, p.alnk_next, p.tick_next, p.spi1_irq_at, p.spi2_next, p.uart.next, p.uart.ot_next, p.usb_next, p.wdt_at];
+        let deadline = |&at: &u64| at <= 1 << 63 || at == u64::MAX;
+        let past = [p.t4_base, p.last_cnt_read, p.tick_start, p.led_last, p.led_since];
+        let force = |f: f32| (0.0..=1.0).contains(&f);
+        let facts = [
+            ("rate", (1_000_000..=800_000_000).contains(&p.hz)),
+            ("clock", p.cycles <= 1 << 53),
+            ("past", past.iter().chain(p.tmr.iter().map(|t| &t.start)).chain(p.key_force.iter().map(|r| &r.t0)).all(|&at| at <= p.cycles)),
+            ("ramp", p.key_force.iter().all(|r| r.dur <= p.hz / 50 && force(r.from) && force(r.to))),
+            ("led", p.led_acc.iter().all(|&lit| lit + p.led_pend <= p.led_last)),
+            ("deadline", deadlines.iter().chain(p.tmr.iter().map(|t| &t.next)).chain(p.enc_next.iter()).all(deadline)),
+            ("queue's deadline", p.uart.q.is_empty() == (p.uart.next == u64::MAX)),
+            ("rings", p.uart.q.len() <= MIDI_QUEUE_MAX && p.script.len() <= 256),
+            ("write place", p.uart.wr < 65_536),
+            ("encoder", p.enc_state.iter().all(|&s| s < 4)),
+            ("velocity", (1..=127).contains(&p.key_vel)),
+            ("half", p.alnk_half < 2),
+            ("masks", p.alnk_len <= 0xffff && p.uart.rxcnt <= 0xffff),
+            ("period", p.usb_next == u64::MAX || (1..=1 << 53).contains(&p.usb_period)),
+            ("next_due", p.next_due <= p.next_event()),
+            ("converter", p.adc_next == u64::MAX),
+        ];
+        facts.iter().find(|(_, holds)| !holds).map(|(name, _)| *name)
+    }
 }

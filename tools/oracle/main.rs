@@ -1,16 +1,25 @@
 //! The original as judge. Reads the lines that the port's programs read and writes the lines that they must write.
 //!
-//!     oracle asks  < lines      names, times, records and the timed blocks, a line each: see crates/asks
-//!     oracle panels < lines    interrupts, the front panel and the converter, a line each: see crates/panels
-//!     oracle calls  < lines    the board's calls, a line each: see crates/calls
+//!     oracle asks   < lines     names, times, records and the timed blocks, a line each: see crates/asks
+//!     oracle panels < lines     interrupts, the front panel and the converter, a line each: see crates/panels
+//!     oracle calls  < lines     the board's calls and the port's, a line each: see crates/calls
+//!     oracle driver < records   document 01's driver
 //!     oracle ramps              ms_cycles at every permitted rate, against 01's whole numbers
 //!
+//! `oracle calls near` and `oracle driver near` write the numbers, from 1, of the answers that may differ by one: readings of a pressed
+//! row. `oracle calls check` and `oracle driver check` hold the original's board against 01's word 'whole' after each line, and write what fails.
+//!
 //! tools/oracle/build compiles it beside the unmodified source.
+mod board;
 mod calls;
+mod driver;
 mod panels;
+mod records;
+mod words;
 
 use periph::inside;
-use std::io::{self, BufRead, BufWriter, Write};
+use std::io::{self, BufRead, BufWriter, Read, Write};
+use words::{bytes_of, decimal, flag, hex, number};
 
 #[derive(Clone, Copy, PartialEq, Eq, Debug)]
 pub enum Board {
@@ -31,39 +40,78 @@ fn main() {
             lines(|words| panels::irqs(&mut irqs, words).or_else(|| panels::front(&mut front, words)))
         }
         ["calls"] => {
-            let mut ports = calls::Ports::default();
-            lines(|words| calls::answer(&mut ports, words))
+            let mut on = calls::On::new();
+            lines(|words| calls::answer(&mut on, words))
+        }
+        ["calls", mode @ ("near" | "check")] => {
+            let (mut on, mut n) = (calls::On::new(), 0);
+            each_line(|line, words| {
+                n += 1;
+                words.map(|words| calls::answer(&mut on, words));
+                marked(mode, n, &String::from_utf8_lossy(line), &on.board);
+            })
+        }
+        ["driver"] => {
+            let mut out = BufWriter::new(io::stdout().lock());
+            driver::run(&input(), |line, _| writeln!(out, "{line}").unwrap())
+        }
+        ["driver", mode @ ("near" | "check")] => {
+            let mut n = 0;
+            driver::run(&input(), |line, board| {
+                n += 1;
+                marked(mode, n, line, board);
+            })
         }
         ["ramps"] => ramps(),
         _ => {
-            eprintln!("usage: oracle asks < lines | oracle panels < lines | oracle calls < lines | oracle ramps");
+            eprintln!("usage: oracle asks|panels < lines | oracle calls [near|check] < lines | oracle driver [near|check] < records | oracle ramps");
             std::process::exit(2);
         }
     }
 }
 
-/// Every line with ` = ` and its answer, `?` where it asks nothing; a line of more than 4,096 bytes is `? = ?`.
-fn lines(mut answer: impl FnMut(&[&str]) -> Option<String>) {
-    let mut out = BufWriter::new(io::stdout().lock());
+fn input() -> Vec<u8> {
+    let mut bytes = Vec::new();
+    io::stdin().lock().read_to_end(&mut bytes).unwrap();
+    bytes
+}
+
+fn marked(mode: &str, n: usize, line: &str, board: &board::Board) {
+    if mode == "near" && board.near {
+        println!("{n}");
+    }
+    if mode == "check" {
+        inside::broken(&board.p).map(|fact| println!("{n} {line}: {fact}"));
+    }
+}
+
+/// Every line that is not passed over, with its words; a line of more than 4,096 bytes has none.
+fn each_line(mut told: impl FnMut(&[u8], Option<&[&str]>)) {
     for line in io::stdin().lock().split(b'\n') {
         let line = line.unwrap();
-        let text = String::from_utf8_lossy(&line).into_owned();
+        let text = String::from_utf8_lossy(&line);
+        let words: Vec<&str> = text.split(' ').filter(|w| !w.is_empty()).collect();
         if line.len() > 4096 {
-            out.write_all(b"? = ?\n").unwrap();
-        } else if text.trim_matches(' ').is_empty() || text.starts_with('#') {
-            continue;
-        } else {
-            out.write_all(&line).unwrap();
-            let words: Vec<&str> = text.split(' ').filter(|w| !w.is_empty()).collect();
-            writeln!(out, " = {}", answer(&words).unwrap_or("?".into())).unwrap();
+            told(&line, None);
+        } else if !words.is_empty() && line[0] != b'#' {
+            told(&line, Some(&words));
         }
     }
+}
+
+/// Every line with ` = ` and its answer, `?` where it asks nothing; a line that is too long is `? = ?`.
+fn lines(mut answer: impl FnMut(&[&str]) -> Option<String>) {
+    let mut out = BufWriter::new(io::stdout().lock());
+    each_line(|line, words| {
+        out.write_all(if words.is_some() { line } else { b"?" }).unwrap();
+        writeln!(out, " = {}", words.and_then(&mut answer).unwrap_or("?".into())).unwrap();
+    });
 }
 
 fn ask(words: &[&str]) -> Option<String> {
     let id = |found: Option<u8>| found.map_or("none".into(), |id| id.to_string());
     let n = |k: usize| words.get(k).and_then(|w| number(w));
-    let n32 = |k: usize| n(k).and_then(|v| u32::try_from(v).ok());
+    let n32 = |k: usize| words.get(k).and_then(|w| decimal(w));
     let answer = match (words[0], words.len()) {
         ("keyid", 2) => return name(words[1]).map(|s| id(s.and_then(|s| periph::key_id(&s)))),
         ("encid", 2) => return name(words[1]).map(|s| id(s.and_then(|s| periph::enc_id(&s)))),
@@ -82,7 +130,7 @@ fn ask(words: &[&str]) -> Option<String> {
         ("pressure", 2) => inside::ms_cycles(hz(n32(1)?)?, 20.0),
         ("spi1of", 4) => inside::spi1(hz(n32(3)?)?, bytes(n32(1)?)?, baud(n32(2)?)?),
         ("spi2of", 4) => inside::spi2(hz(n32(3)?)?, bytes(n32(1)?)?, baud(n32(2)?)?),
-        ("record", 3) => return record(&bytes_of(words[1])?, n(2)?),
+        ("record", 3) => return Some(records::line(&bytes_of(words[1])?, n(2)?)),
         ("wdt", 2) => p33::P33::wdt_ms(n(1).and_then(|v| u8::try_from(v).ok())?),
         _ => return None,
     };
@@ -102,63 +150,9 @@ fn baud(n: u32) -> Option<u32> {
     (n <= 16_383).then_some(n)
 }
 
-fn number(word: &str) -> Option<u64> {
-    word.bytes().all(|b| b.is_ascii_digit()).then(|| word.parse().ok())?
-}
-
-/// Pairs of hex digits, `-` for none.
-fn bytes_of(word: &str) -> Option<Vec<u8>> {
-    if word == "-" {
-        return Some(Vec::new());
-    }
-    if word.len() % 2 != 0 || !word.bytes().all(|b| b.is_ascii_hexdigit()) {
-        return None;
-    }
-    Some((0..word.len()).step_by(2).map(|i| u8::from_str_radix(&word[i..i + 2], 16).unwrap()).collect())
-}
-
 /// The outer `None`: no such thing. The inner: bytes that are no text, which name nothing.
 fn name(word: &str) -> Option<Option<String>> {
     bytes_of(word).map(|bytes| String::from_utf8(bytes).ok())
-}
-
-/// The original has no records: this is document 01's layout, worked out a second time.
-fn record(bytes: &[u8], at: u64) -> Option<String> {
-    let s = bytes.get(at.min(bytes.len() as u64) as usize..).unwrap();
-    let broken = Some(format!("broken {at}"));
-    let number = |from: usize, k: usize| s[from..from + k].iter().rev().fold(0u64, |n, &b| n << 8 | b as u64);
-    if s.is_empty() {
-        return Some("end".into());
-    }
-    if s.len() < 4 {
-        return broken;
-    }
-    let kind = number(2, 2);
-    let long = match kind {
-        1 | 6 => 14,
-        2 => 17,
-        3 => 15,
-        4 | 5 => 13,
-        0x101 => 8,
-        0x102 | 0x103 => 12,
-        _ => return broken,
-    };
-    if number(0, 2) != long as u64 || s.len() < long || kind == 1 && s[13] > 1 {
-        return broken;
-    }
-    let what = match kind {
-        1 => format!("key {} {}", s[12], s[13]),
-        2 => format!("enc {} {}", s[12], number(13, 4) as u32 as i32),
-        3 => format!("adc {} {}", s[12], number(13, 2)),
-        4 => format!("midi {}", s[12]),
-        5 => format!("vel {}", s[12]),
-        6 => format!("pressure {} {}", s[12], s[13]),
-        0x101 => format!("read {}", number(4, 4)),
-        0x102 => format!("write {} {}", number(4, 4), number(8, 4)),
-        _ => format!("step {}", number(4, 8)),
-    };
-    let time = if kind < 7 { format!("{} ", number(4, 8)) } else { String::new() };
-    Some(format!("{time}{what} next {}", at + long as u64))
 }
 
 /// The registers of the timed blocks; any other address is none of theirs.
@@ -170,9 +164,9 @@ fn timed_register(addr: u32) -> bool {
 
 fn timed(p: &mut periph::Periph, words: &[&str]) -> Option<String> {
     let n = |k: usize| words.get(k).and_then(|w| number(w));
-    let n32 = |k: usize| n(k).and_then(|v| u32::try_from(v).ok());
-    let flag = |k: usize| n(k).filter(|&v| v < 2).map(|v| v == 1);
-    let hex = |k: usize| words.get(k).filter(|w| w.len() <= 8 && w.bytes().all(|b| b.is_ascii_hexdigit())).and_then(|w| u32::from_str_radix(w, 16).ok());
+    let n32 = |k: usize| words.get(k).and_then(|w| decimal(w));
+    let flag = |k: usize| words.get(k).and_then(|w| flag(w));
+    let hex = |k: usize| words.get(k).and_then(|w| hex(w));
     let answer = match (words[0], words.len()) {
         ("new", 2) => {
             *p = inside::at(hz(n32(1)?)?, 0);

@@ -1,14 +1,6 @@
 //! The lines of crates/panels, answered by the original.
-use crate::number;
 use crate::periph::{inside, Action, Periph};
-
-fn hex(word: &str) -> Option<u32> {
-    (word.len() <= 8 && word.bytes().all(|b| b.is_ascii_hexdigit())).then(|| u32::from_str_radix(word, 16).ok())?
-}
-
-fn decimal(word: &str) -> Option<u32> {
-    number(word).and_then(|n| u32::try_from(n).ok())
-}
+use crate::words::{byte, decimal, flag, half, hex, number, signed};
 
 fn choice(found: Option<(u8, u8)>) -> String {
     found.map_or("none".into(), |(irq, prio)| format!("{irq} {prio}"))
@@ -28,7 +20,7 @@ pub fn irqs(p: &mut Periph, words: &[&str]) -> Option<String> {
             let bank = if decimal(core)? == 0 { &mut p.icfg } else { &mut p.icfg1 };
             *bank.get_mut(decimal(index)? as usize)? = hex(v)?;
         }
-        ["pend", name, flag] => inside::pend(p, name, decimal(flag).filter(|&f| f < 2)? == 1)?,
+        ["pend", name, on] => inside::pend(p, name, flag(on)?)?,
         ["audio", pend, con0] => inside::audio(p, hex(pend)?, hex(con0)?),
         ["latch", "set", v] => drop(p.write(0x1eef1a0, hex(v)?)),
         ["latch", "clear", v] => drop(p.write(0x1eef1a4, hex(v)?)),
@@ -36,20 +28,11 @@ pub fn irqs(p: &mut Periph, words: &[&str]) -> Option<String> {
         ["write", addr, v] => return Some((p.write(hex(addr).filter(|&a| irq_register(a))?, hex(v)?) as u8).to_string()),
         ["irq"] => return Some(choice(p.pending_irq())),
         ["irq", core] => return Some(choice(p.pending_irq_for(decimal(core)?))),
-        ["enabled", core, n] => return Some((p.irq_enabled(decimal(core)?, decimal(n).and_then(|n| u8::try_from(n).ok())?) as u8).to_string()),
+        ["enabled", core, n] => return Some((p.irq_enabled(decimal(core)?, byte(n)?) as u8).to_string()),
         ["pending"] => return Some((p.any_pending() as u8).to_string()),
         _ => return None,
     }
     done
-}
-
-fn byte(word: &str) -> Option<u8> {
-    decimal(word).and_then(|n| u8::try_from(n).ok())
-}
-
-fn signed(word: &str) -> Option<i32> {
-    let digits = word.strip_prefix('-').unwrap_or(word);
-    (!digits.is_empty() && digits.bytes().all(|b| b.is_ascii_digit())).then(|| word.parse().ok())?
 }
 
 fn front_register(addr: u32) -> bool {
@@ -76,11 +59,11 @@ pub fn front(p: &mut Periph, words: &[&str]) -> Option<String> {
         }
         ["write", addr, v] => return Some((p.write(hex(addr).filter(|&a| front_register(a))?, hex(v)?) as u8).to_string()),
         ["srbyte", b] => p.sr_shift_byte(hex(b).and_then(|b| u8::try_from(b).ok())?),
-        ["key", id, down] => p.apply(&Action::Key { id: byte(id)?, down: decimal(down).filter(|&d| d < 2)? == 1 }),
+        ["key", id, down] => p.apply(&Action::Key { id: byte(id)?, down: flag(down)? }),
         ["vel", vel] => p.apply(&Action::KeyVel { vel: byte(vel)? }),
         ["pressure", id, vel] => p.apply(&Action::Pressure { id: byte(id)?, vel: byte(vel)? }),
         ["enc", enc, clicks] => p.apply(&Action::Enc { enc: byte(enc)?, clicks: signed(clicks)? }),
-        ["adc", ch, value] => p.apply(&Action::Adc { ch: byte(ch)?, value: decimal(value).and_then(|v| u16::try_from(v).ok())? }),
+        ["adc", ch, value] => p.apply(&Action::Adc { ch: byte(ch)?, value: half(value)? }),
         ["reset"] => inside::reset(p),
         ["state"] => return Some(inside::front(p)),
         ["encs"] => return Some(inside::encs(p)),

@@ -1,8 +1,23 @@
 // The board by hand: calls as lines of text, each answered with the line itself, ` = ` and the result; `?` where the line is no call. The
 // original answers the same lines (tools/oracle), so the two outputs must be equal to the byte: crates/calls/stdout is the original's,
-// tools/compare runs both on more. So far the port's calls and the names stand; the board's come with it.
+// tools/compare runs both on more. A board at 240 MHz and a port are there from the start.
 //
-//     p33 new, p33 write A V, p33 reset CAUSE     0 (or the refusal's number): a port is there from the start
+//     new HZ                                      0 or 1: a new board
+//     set cycle_ticks|skip_idle|in_isr|room_cap|exc|spi2 N
+//     usb AT PERIOD, wdt AT                       0 or 4
+//     push TIME ACTION, apply ACTION              0 or 5; 0 or 6
+//     read A                                      the value or `none`; while idle time is skipped also clock and `skipped`
+//     write A V                                   1 or 0
+//     step N                                      clock, audio half or `-`, byte or `-`, USB frame, watchdog, actions applied
+//     tick, nexttick, room, ms, cycles_of MS      a flag or a number
+//     idle                                        clock and `skipped`
+//     spi1 BYTES BAUD IRQ                         `spi1_done_at` and `spi1_wire`
+//     spi2 BYTES BAUD IRQ, spi1off, srbyte B, reset
+//     pending, enabled CORE N                     a flag
+//     irq CORE                                    number and priority, or `none`
+//     led                                         the span, then id:lit for each LED that was lit
+//     state                                       clock, due, skipped, halves, queued, dropped, script, wire, done, vel
+//     p33 new, p33 write A V, p33 reset CAUSE     0 (or the refusal's number)
 //     p33 read A                                  the value
 //     p33 keep, p33 same                          the port copied aside; whether the port is the same as the kept one
 //     p33 event                                   `none`, `wdt FED` or `reset`: takes it
@@ -12,11 +27,22 @@
 //     p33 sum                                     FNV-1a over all registers
 //     keyid HEX, encid HEX                        a name's bytes as pairs of hex digits, `-` for none: its id or `none`
 //
-// Addresses and values are hex, other numbers decimal. Empty lines and lines that begin with `#` answer nothing. A line of more than 4,096
-// bytes is answered `? = ?`.
+// Actions are `key ID DOWN`, `enc ENC CLICKS`, `adc CH VALUE`, `midi B`, `vel VEL` and `pressure ID VEL`. Addresses and values are hex, other numbers
+// decimal. A call that is refused answers `E` and the refusal's number, where its result is not that number itself. Empty lines and lines that
+// begin with `#` answer nothing. A line of more than 4,096 bytes is answered `? = ?`.
+mod actions;
+mod answers;
+mod asked;
+mod boards;
 mod call;
+mod fields;
+mod looks;
 mod names_of;
 mod ports;
+mod registers;
+mod running;
+mod settings;
+mod wires;
 
 use call::Said;
 use p33::P33;
@@ -25,10 +51,11 @@ use text::first;
 use text::put;
 use text::put_text;
 
-// The line so far, the answers that wait, and the ports.
+// All that goes on from line to line, the length of the line so far, and whether the input has ended.
 struct Went {
-    line: usize,
     said: Said,
+    line: usize,
+    over: bool,
 }
 
 fn main() {
@@ -36,64 +63,131 @@ fn main() {
     let mut line = [0u8; 4097];
     let mut out = [0u8; 65536];
     let mut regs = [0u8; 2048];
-    let mut kept = [0u8; 2048];
-    let made = P33::new(&mut regs).port;
-    let mut went = Went {
-        line: 0,
-        said: Said {
-            out: 0,
-            ports: Ports {
-                port: made,
-                kept: made,
-            },
-        },
-    };
+    let mut queue = [0u8; 3125];
+    let mut script = [0u64; 512];
+    let mut icfg = [0u32; 32];
+    let mut icfg1 = [0u32; 32];
+    run(
+        &mut input,
+        &mut line,
+        &mut out,
+        &mut regs,
+        &mut queue,
+        &mut script,
+        &mut icfg,
+        &mut icfg1,
+    );
+}
+
+// Every line of standard input.
+fn run(
+    input: &mut [u8],
+    line: &mut [u8],
+    out: &mut [u8],
+    regs: &mut [u8],
+    queue: &mut [u8],
+    script: &mut [u64],
+    icfg: &mut [u32],
+    icfg1: &mut [u32],
+) {
+    let mut went = start(regs, icfg, icfg1);
     let mut turns = u64::MAX;
     while 0 < turns {
         turns = turns - 1;
-        let got = io::read_full(libc::STDIN_FILENO, &mut input);
-        if got == 0 {
-            break;
+        went = turn(input, line, out, regs, queue, script, icfg, icfg1, went);
+        if went.over {
+            turns = 0;
         }
-        went = chunk(
-            first(&input, got),
-            &mut line,
-            &mut out,
-            &mut regs,
-            &mut kept,
-            went,
-        );
     }
     let said = went.said;
-    let last = ended(&line, went.line, &mut out, &mut regs, &mut kept, said);
-    flush(&out, last.out);
+    let last = ended(line, went.line, out, regs, queue, script, icfg, icfg1, said);
+    flush(out, last.out);
 }
+
+// One read of it; none is the end.
+fn turn(
+    input: &mut [u8],
+    line: &mut [u8],
+    out: &mut [u8],
+    regs: &mut [u8],
+    queue: &mut [u8],
+    script: &mut [u64],
+    icfg: &mut [u32],
+    icfg1: &mut [u32],
+    mut went: Went,
+) -> Went {
+    let got = io::read_full(libc::STDIN_FILENO, input);
+    if got == 0 {
+        went.over = true;
+        return went;
+    }
+    chunk(
+        input,
+        got,
+        line,
+        out,
+        regs,
+        queue,
+        script,
+        icfg,
+        icfg1,
+        went,
+    )
+}
+
+fn start(regs: &mut [u8], icfg: &mut [u32], icfg1: &mut [u32]) -> Went {
+    let port = P33::new(regs).port;
+    let board = board::made(RATE, boards::QUEUE_BYTES, boards::ENTRIES, icfg, icfg1).board;
+    let ports = Ports {
+        port: port,
+        kept: port,
+        kept_regs: [0u8; 2048],
+    };
+    let said = Said {
+        board: board,
+        ports: ports,
+        out: 0,
+    };
+    Went {
+        said: said,
+        line: 0,
+        over: false,
+    }
+}
+
+const RATE: u64 = 240_000_000;
 
 // The bytes of one read: a line's end answers it, any other byte joins the line. A full line is too long, and stays so.
 fn chunk(
     input: &[u8],
+    got: usize,
     line: &mut [u8],
     out: &mut [u8],
     regs: &mut [u8],
-    kept: &mut [u8],
+    queue: &mut [u8],
+    script: &mut [u64],
+    icfg: &mut [u32],
+    icfg1: &mut [u32],
     went: Went,
 ) -> Went {
+    let bytes = first(input, got);
     let mut n = went.line;
     let mut said = went.said;
     let mut i: usize = 0;
-    while i < input.len() {
-        let b = input[i];
+    while i < bytes.len() {
+        let b = bytes[i];
         i = i + 1;
         if b == b'\n' {
-            said = ended(line, n, out, regs, kept, said);
+            said = ended(line, n, out, regs, queue, script, icfg, icfg1, said);
             n = 0;
         } else {
             n = put(line, n, b);
         }
     }
     Went {
-        line: n,
         said: said,
+        line: n,
+        over: false,
     }
 }
 
@@ -103,18 +197,18 @@ fn ended(
     n: usize,
     out: &mut [u8],
     regs: &mut [u8],
-    kept: &mut [u8],
-    said: Said,
+    queue: &mut [u8],
+    script: &mut [u64],
+    icfg: &mut [u32],
+    icfg1: &mut [u32],
+    mut said: Said,
 ) -> Said {
-    let ports = said.ports;
-    let to = flushed(out, said.out);
+    said.out = flushed(out, said.out);
     if n < line.len() {
-        return answered(first(line, n), out, to, regs, kept, ports);
+        return answered(first(line, n), out, regs, queue, script, icfg, icfg1, said);
     }
-    Said {
-        out: put_text(out, to, b"? = ?\n"),
-        ports: ports,
-    }
+    said.out = put_text(out, said.out, b"? = ?\n");
+    said
 }
 
 fn flushed(out: &[u8], to: usize) -> usize {
@@ -132,23 +226,23 @@ fn flush(out: &[u8], n: usize) {
 fn answered(
     line: &[u8],
     out: &mut [u8],
-    at: usize,
     regs: &mut [u8],
-    kept: &mut [u8],
-    ports: Ports,
+    queue: &mut [u8],
+    script: &mut [u64],
+    icfg: &mut [u32],
+    icfg1: &mut [u32],
+    mut said: Said,
 ) -> Said {
     if text::is_passed_over(line) {
-        return Said {
-            out: at,
-            ports: ports,
-        };
+        return said;
     }
-    let told = put_text(out, at, line);
-    let equals = put_text(out, told, b" = ");
-    let said = call::put_answer(out, equals, line, regs, kept, ports);
-    let after = said.ports;
-    Said {
-        out: put(out, said.out, b'\n'),
-        ports: after,
-    }
+    said.out = put_line(out, said.out, line);
+    let mut after = call::put_answer(out, line, regs, queue, script, icfg, icfg1, said);
+    after.out = put(out, after.out, b'\n');
+    after
+}
+
+fn put_line(out: &mut [u8], to: usize, line: &[u8]) -> usize {
+    let told = put_text(out, to, line);
+    put_text(out, told, b" = ")
 }

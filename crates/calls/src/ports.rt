@@ -1,15 +1,22 @@
-// The port's calls: the port, one that was kept aside, and their register memories, lent. Writes and resets go through the record that is
+// The port's calls: the port and its register memory, lent, and one that was kept aside with its registers. Writes and resets go through the record that is
 // lent by `&mut`, so that what is compared with the original is that form.
-use crate::call::Said;
+use crate::answers::put_flag;
+use crate::answers::put_refused;
 use crate::call::Words;
+use crate::fields::Flag;
+use crate::fields::Large;
+use crate::fields::Middle;
+use crate::fields::Small;
+use crate::fields::byte_in;
+use crate::fields::flag_in;
+use crate::fields::half_in;
+use crate::fields::hex_word;
+use p33::Compared;
 use p33::Done;
 use p33::Event;
 use p33::P33;
 use p33::Snap;
-use text::Number;
 use text::Span;
-use text::decimal_in;
-use text::hex_in;
 use text::is;
 use text::put;
 use text::put_decimal;
@@ -19,20 +26,25 @@ use text::put_text;
 pub struct Ports {
     pub port: P33,
     pub kept: P33,
+    pub kept_regs: [u8; 2048],
 }
 
-fn said(out: usize, port: P33, kept: P33) -> Said {
-    Said {
+// The answers that wait, and the ports.
+pub struct Ported {
+    pub out: usize,
+    pub ports: Ports,
+}
+
+fn with_port(out: usize, mut ports: Ports, port: P33) -> Ported {
+    ports.port = port;
+    Ported {
         out: out,
-        ports: Ports {
-            port: port,
-            kept: kept,
-        },
+        ports: ports,
     }
 }
 
-fn unknown(out: &mut [u8], to: usize, ports: Ports) -> Said {
-    Said {
+fn unknown(out: &mut [u8], to: usize, ports: Ports) -> Ported {
+    Ported {
         out: put_text(out, to, b"?"),
         ports: ports,
     }
@@ -44,9 +56,8 @@ pub fn put_port(
     line: &[u8],
     w: Words,
     regs: &mut [u8],
-    kept: &mut [u8],
     ports: Ports,
-) -> Said {
+) -> Ported {
     let n = w.count;
     let verb = w.one;
     let one = w.two;
@@ -58,7 +69,7 @@ pub fn put_port(
         return put_of_one(out, to, line, verb, one, regs, ports);
     }
     if n == 2 {
-        return put_plain(out, to, line, verb, regs, kept, ports);
+        return put_plain(out, to, line, verb, regs, ports);
     }
     unknown(out, to, ports)
 }
@@ -71,26 +82,26 @@ fn put_plain(
     line: &[u8],
     verb: Span,
     regs: &mut [u8],
-    kept: &mut [u8],
     ports: Ports,
-) -> Said {
+) -> Ported {
     let port = ports.port;
-    let other = ports.kept;
     if is(line, verb, b"new") {
-        return put_done(out, to, P33::new(regs), other);
+        return put_done(out, to, P33::new(regs), ports);
     }
     if is(line, verb, b"keep") {
-        copy(regs, kept);
-        return said(put_text(out, to, b"0"), port, port);
+        return Ported {
+            out: put_text(out, to, b"0"),
+            ports: kept(port, regs),
+        };
     }
     if is(line, verb, b"event") {
         let taken = port.take_event();
         let event = taken.event;
         let after = taken.port;
-        return said(put_event(out, to, event), after, other);
+        return with_port(put_event(out, to, event), ports, after);
     }
-    Said {
-        out: put_look(out, to, line, verb, port, regs, other, kept),
+    Ported {
+        out: put_look(out, to, line, verb, regs, ports),
         ports: ports,
     }
 }
@@ -100,14 +111,13 @@ fn put_look(
     to: usize,
     line: &[u8],
     verb: Span,
-    port: P33,
     regs: &[u8],
-    other: P33,
-    kept: &[u8],
+    ports: Ports,
 ) -> usize {
+    let port = ports.port;
     if is(line, verb, b"same") {
-        let compared = p33::same(port, regs, other, kept);
-        return put_answer(out, to, compared.refused, base::when(compared.same, 1));
+        let compared = same(ports, regs);
+        return put_flag(out, to, compared.refused as u64, compared.same);
     }
     if is(line, verb, b"snap") {
         return put_snap(out, to, port.snap());
@@ -118,22 +128,27 @@ fn put_look(
     put_text(out, to, b"?")
 }
 
-fn put_done(out: &mut [u8], to: usize, done: Done, kept: P33) -> Said {
+fn put_done(out: &mut [u8], to: usize, done: Done, ports: Ports) -> Ported {
     let port = done.port;
-    said(put_decimal(out, to, done.refused as u64), port, kept)
+    with_port(put_decimal(out, to, done.refused as u64), ports, port)
 }
 
-// A result, or `E` and the refusal's number.
-fn put_answer(out: &mut [u8], to: usize, refused: u8, n: u32) -> usize {
-    if refused == 0 {
-        return put_decimal(out, to, n as u64);
+// The port copied aside.
+fn kept(port: P33, regs: &[u8]) -> Ports {
+    let mut aside = [0u8; 2048];
+    copy(regs, &mut aside);
+    Ports {
+        port: port,
+        kept: port,
+        kept_regs: aside,
     }
-    put_refused(out, to, refused)
 }
 
-fn put_refused(out: &mut [u8], to: usize, refused: u8) -> usize {
-    let e = put_text(out, to, b"E ");
-    put_decimal(out, e, refused as u64)
+fn same(ports: Ports, regs: &[u8]) -> Compared {
+    let port = ports.port;
+    let other = ports.kept;
+    let aside = ports.kept_regs;
+    p33::same(port, regs, other, &aside)
 }
 
 fn put_event(out: &mut [u8], to: usize, event: Event) -> usize {
@@ -207,43 +222,34 @@ fn put_of_one(
     one: Span,
     regs: &mut [u8],
     ports: Ports,
-) -> Said {
+) -> Ported {
     let port = ports.port;
-    let other = ports.kept;
     if is(line, verb, b"read") {
-        return Said {
-            out: put_read(out, to, hex_in(line, one, 8), port),
+        return Ported {
+            out: put_read(out, to, hex_word(line, one), port),
             ports: ports,
         };
     }
-    let Number::Is(n) = decimal_in(line, one) else {
+    let Small::Is(n) = byte_in(line, one) else {
         return unknown(out, to, ports);
     };
-    if 255 < n {
-        return unknown(out, to, ports);
-    }
     if is(line, verb, b"reset") {
-        return put_done(out, to, p33::chip_reset_through(port, regs, n as u8), other);
+        return put_done(out, to, p33::chip_reset_through(port, regs, n), ports);
     }
     if is(line, verb, b"ms") {
-        return Said {
-            out: put_decimal(out, to, P33::wdt_ms(n as u8)),
+        return Ported {
+            out: put_decimal(out, to, P33::wdt_ms(n)),
             ports: ports,
         };
     }
     unknown(out, to, ports)
 }
 
-fn put_read(out: &mut [u8], to: usize, addr: Number, port: P33) -> usize {
-    let Number::Is(a) = addr else {
+fn put_read(out: &mut [u8], to: usize, addr: Large, port: P33) -> usize {
+    let Large::Is(a) = addr else {
         return put_text(out, to, b"?");
     };
-    put_hex(out, to, port.read(word_of(a)) as u64, 8)
-}
-
-// At most 8 hex digits were read, so nothing is lost.
-fn word_of(n: u64) -> u32 {
-    (n % 0x1_0000_0000) as u32
+    put_hex(out, to, port.read(a) as u64, 8)
 }
 
 // ---- calls of two numbers
@@ -257,20 +263,20 @@ fn put_of_two(
     two: Span,
     regs: &mut [u8],
     ports: Ports,
-) -> Said {
+) -> Ported {
     if is(line, verb, b"write") {
         return put_write(
             out,
             to,
-            hex_in(line, one, 8),
-            hex_in(line, two, 8),
+            hex_word(line, one),
+            hex_word(line, two),
             regs,
             ports,
         );
     }
     if is(line, verb, b"reg") {
-        return Said {
-            out: put_reg(out, to, decimal_in(line, one), decimal_in(line, two), regs),
+        return Ported {
+            out: put_reg(out, to, half_in(line, one), flag_in(line, two), regs),
             ports: ports,
         };
     }
@@ -280,43 +286,31 @@ fn put_of_two(
 fn put_write(
     out: &mut [u8],
     to: usize,
-    addr: Number,
-    value: Number,
+    addr: Large,
+    value: Large,
     regs: &mut [u8],
     ports: Ports,
-) -> Said {
+) -> Ported {
     let port = ports.port;
-    let other = ports.kept;
-    let Number::Is(a) = addr else {
+    let Large::Is(a) = addr else {
         return unknown(out, to, ports);
     };
-    let Number::Is(v) = value else {
+    let Large::Is(v) = value else {
         return unknown(out, to, ports);
     };
-    put_done(
-        out,
-        to,
-        p33::write_through(port, regs, word_of(a), word_of(v)),
-        other,
-    )
+    put_done(out, to, p33::write_through(port, regs, a, v), ports)
 }
 
-fn put_reg(out: &mut [u8], to: usize, addr: Number, rtc: Number, regs: &[u8]) -> usize {
-    let Number::Is(a) = addr else {
+fn put_reg(out: &mut [u8], to: usize, addr: Middle, rtc: Flag, regs: &[u8]) -> usize {
+    let Middle::Is(a) = addr else {
         return put_text(out, to, b"?");
     };
-    let Number::Is(f) = rtc else {
+    let Flag::Is(f) = rtc else {
         return put_text(out, to, b"?");
     };
-    if 65535 < a {
-        return put_text(out, to, b"?");
-    }
-    if 1 < f {
-        return put_text(out, to, b"?");
-    }
-    let found = P33::reg(regs, a as u16, f == 1);
+    let found = P33::reg(regs, a, f);
     if found.refused == 0 {
         return put_hex(out, to, found.value as u64, 2);
     }
-    put_refused(out, to, found.refused)
+    put_refused(out, to, found.refused as u64)
 }

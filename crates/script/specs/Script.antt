@@ -1,5 +1,5 @@
 -- The script's ring: the place of its front, how many wait, and the front's time.
-use Prim.Native.Nat.{ℕ, _≤_, _<_}
+use Prim.Native.Nat.{ℕ, _+_, _-_, _%_, _≤_, _<_}
 use mathlib.Core.Bool.{Bool, cond, _&&_}
 use lib.Dec.{eqb, ltb, leb}
 use Rattle.base.specs.Moments.{never}
@@ -24,3 +24,27 @@ scriptWhole s = ltb (s .place) entries && leb (s .count) entries
 pub record ScriptOk (s : Script) : Type 0 where
   pub place : s .place < entries
   pub count : s .count ≤ entries
+
+-- ---- what a push and a take do to the record
+
+-- where a push puts its entry: behind the last, round the end
+abbrev pub spotOf : Script → ℕ
+spotOf s = (s .place + s .count) % entries
+
+abbrev pub fullOf : Script → Bool
+fullOf s = leb entries (s .count)
+
+-- one more waits; its time is the front's if none waited
+abbrev pub pushedOf : Script → ℕ → Script
+pushedOf s at = record { at = cond (eqb (s .count) 0) at (s .at); place = s .place; count = s .count + 1 }
+
+-- the front's time as a look showed it
+abbrev pub lookedOf : Script → ℕ → Script
+lookedOf s at = record { at = at; place = s .place; count = s .count }
+
+abbrev pub nextPlace : Script → ℕ
+nextPlace s = (s .place + 1) % entries
+
+-- the front gone
+abbrev pub takenOf : Script → Script
+takenOf s = record { at = s .at; place = nextPlace s; count = s .count - 1 }

@@ -106,29 +106,34 @@ module _ (b : Board) (t : Typed b) where
       let f2 = both (scriptWhole (c .script) && pinsWhole (c .pins) now) (encsWhole (c .enc)) (f3 .0) in
       let f1 = both (scriptWhole (c .script)) (pinsWhole (c .pins) now) (f2 .0) in
       record {
-        chip = record {
-          clock = clock-facts (c .clock) (s .clock);
-          t4 = t4-facts (c .t4) now (t1 .0);
-          t5 = t5-facts (c .t5) (t .t5) (t1 .1);
-          tmr = λ i h. tmr-facts (tmrOf (c .tmr) i) now (t .tmr i h) (all-at (λ j. tmrWhole (tmrOf (c .tmr) j) now) 4 i (t2 .1) h);
-          tick = tick-facts (c .tick) now (t3 .1);
-          audio = audio-facts (c .audio) (w1 .0);
-          spi = spi-facts (c .spi) (w1 .1);
-          uart = uart-facts (c .uart) (w2 .1) (t .otcnt);
-          host = host-facts (c .host) (w3 .1);
-          script = script-facts (c .script) (f1 .0);
-          pins = pins-facts (c .pins) now (f1 .1);
-          enc = encs-facts (c .enc) (f2 .1);
-          keys = keys-facts (c .keys) (f3 .1);
-          due = s .due;
+        sound = record {
+          chip = record {
+            clock = clock-facts (c .clock) (s .clock);
+            t4 = t4-facts (c .t4) now (t1 .0);
+            t5 = t5-facts (c .t5) (t .t5) (t1 .1);
+            tmr = λ i h. tmr-facts (tmrOf (c .tmr) i) now (t .tmr i h) (all-at (λ j. tmrWhole (tmrOf (c .tmr) j) now) 4 i (t2 .1) h);
+            tmrs = t .tmrs;
+            tick = tick-facts (c .tick) now (t3 .1);
+            audio = audio-facts (c .audio) (w1 .0);
+            spi = spi-facts (c .spi) (w1 .1);
+            uart = uart-facts (c .uart) (w2 .1) (t .otcnt);
+            host = host-facts (c .host) (w3 .1);
+            script = script-facts (c .script) (f1 .0);
+            pins = pins-facts (c .pins) now (f1 .1);
+            enc = encs-facts (c .enc) (f2 .1);
+            encs = t .encs;
+            keys = keys-facts (c .keys) (f3 .1);
+          };
+          ramps = ramps-facts (b .panel .ramps) now (c .clock .hz) (t .forces) (q .0);
+          sized = t .ramps;
+          light = light-facts (c .pins) (b .panel .acc) (pend-past c (p .0)) (q .1);
         };
-        ramps = ramps-facts (b .panel .ramps) now (c .clock .hz) (t .forces) (q .0);
-        light = light-facts (c .pins) (b .panel .acc) (pend-past c (p .0)) (q .1);
+        due = s .due;
       }
 
   pub whole-test : Whole b → boardWhole b ≡ true
   unfolding boardWhole chipWhole panelWhole timersWhole wiresWhole frontWhole tmrsWhole
   whole-test w =
-      let k = w .chip in
+      let k = w .sound .chip in
       rw
-      (clock-test (c .clock) (k .clock), t4-test (c .t4) now (k .t4), t5-test (c .t5) (k .t5), all-of (λ j. tmrWhole (tmrOf (c .tmr) j) now) 4 (λ i h. tmr-test (tmrOf (c .tmr) i) now (k .tmr i h)), tick-test (c .tick) now (k .tick), audio-test (c .audio) (k .audio), spi-test (c .spi) (k .spi), uart-test (c .uart) (k .uart), host-test (c .host) (k .host), script-test (c .script) (k .script), pins-test (c .pins) now (k .pins), encs-test (c .enc) (k .enc), keys-test (c .keys) (k .keys), le-leb (c .clock .«next_due») (nextEvent c) (k .due), ramps-test (b .panel .ramps) now (c .clock .hz) (w .ramps), light-test (c .pins) (b .panel .acc) (w .light))
+      (clock-test (c .clock) (k .clock), t4-test (c .t4) now (k .t4), t5-test (c .t5) (k .t5), all-of (λ j. tmrWhole (tmrOf (c .tmr) j) now) 4 (λ i h. tmr-test (tmrOf (c .tmr) i) now (k .tmr i h)), tick-test (c .tick) now (k .tick), audio-test (c .audio) (k .audio), spi-test (c .spi) (k .spi), uart-test (c .uart) (k .uart), host-test (c .host) (k .host), script-test (c .script) (k .script), pins-test (c .pins) now (k .pins), encs-test (c .enc) (k .enc), keys-test (c .keys) (k .keys), le-leb (c .clock .«next_due») (nextEvent c) (w .due), ramps-test (b .panel .ramps) now (c .clock .hz) (w .sound .ramps), light-test (c .pins) (b .panel .acc) (w .sound .light))

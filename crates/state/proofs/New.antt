@@ -46,32 +46,37 @@ enc-new (suc (suc (suc (suc (suc (suc (suc (suc i)))))))) = enc-ok
 pub new-whole : (hz : ℕ) → 1_000_000 ≤ hz → hz ≤ 800_000_000 → Whole (boardNew hz)
 unfolding chipNew panelNew nextEvent
 new-whole hz l h = record {
-  chip = record {
-    clock = record { low = l; high = h; cycles = omega arith };
-    t4 = record { base = omega arith; read = omega arith };
-    t5 = record { next = inr refl; prd = omega arith };
-    tmr = tmr-new;
-    tick = record { start = omega arith; next = inr refl };
-    audio = record { next = inr refl; half = omega arith; len = omega arith };
-    spi = record { done = inl (omega arith); irq = inr refl; spi2 = inr refl };
-    uart = record {
-      next = inr refl;
-      timeout = inr refl;
-      idle = λ e. refl;
-      empty = λ e. refl;
-      place = omega arith;
-      count = omega arith;
-      wr = omega arith;
-      rxcnt = omega arith;
-      otcnt = omega arith;
+  sound = record {
+    chip = record {
+      clock = record { low = l; high = h; cycles = omega arith };
+      t4 = record { base = omega arith; read = omega arith };
+      t5 = record { next = inr refl; prd = omega arith };
+      tmr = tmr-new;
+      tmrs = refl;
+      tick = record { start = omega arith; next = inr refl };
+      audio = record { next = inr refl; half = omega arith; len = omega arith };
+      spi = record { done = inl (omega arith); irq = inr refl; spi2 = inr refl };
+      uart = record {
+        next = inr refl;
+        timeout = inr refl;
+        idle = λ e. refl;
+        empty = λ e. refl;
+        place = omega arith;
+        count = omega arith;
+        wr = omega arith;
+        rxcnt = omega arith;
+        otcnt = omega arith;
+      };
+      host = record { usb = inr refl; wdt = inr refl; period = inl refl };
+      script = record { place = omega arith; count = omega arith };
+      pins = record { last = omega arith; since = omega arith; pend = omega arith };
+      enc = λ i k. enc-new i;
+      encs = refl;
+      keys = record { low = omega arith; high = omega arith };
     };
-    host = record { usb = inr refl; wdt = inr refl; period = inl refl };
-    script = record { place = omega arith; count = omega arith };
-    pins = record { last = omega arith; since = omega arith; pend = omega arith };
-    enc = λ i k. enc-new i;
-    keys = record { low = omega arith; high = omega arith };
-    due = omega arith;
+    ramps = λ i k. rw (ramp-new i k) (new-ok 0 (hz / 50));
+    sized = record { t0 = refl; dur = refl; from = refl; to = refl };
+    light = λ i k. rw (getD-replicate {A = ℕ} 41 i 0 0 k) (omega arith);
   };
-  ramps = λ i k. rw (ramp-new i k) (new-ok 0 (hz / 50));
-  light = λ i k. rw (getD-replicate {A = ℕ} 41 i 0 0 k) (omega arith);
+  due = omega arith;
 }

@@ -1,13 +1,15 @@
 -- The board's record: a new one, when its next event comes, and when it is whole.
 use Prim.Native.Nat.{ℕ, _-_, min}
-use mathlib.Core.Bool.{Bool, _&&_, _||_}
+use mathlib.Core.Bool.{Bool, cond, not, _&&_, _||_}
 use mathlib.Core.List.{List, [], _∷_}
-use lib.Dec.{eqb, leb}
+use lib.Dec.{eqb, leb, ltb}
 use lib.ListN.{replicate}
-use Rattle.base.specs.Moments.{never, isClock, isDeadline}
+use Rattle.base.specs.Bits.{isSet}
+use Rattle.base.specs.Moments.{never, isClock, isDeadline, rearmedOf}
 use Rattle.adc.specs.Adc.{adcNew}
 use Rattle.audio.specs.Audio.{audioNew, audioWhole}
 use Rattle.irq.specs.Latch.{latchNew}
+use Rattle.irq.specs.declared.Pending.{Pending}
 use Rattle.panel.specs.Encoder.{encNew, encsNext, encsWhole}
 use Rattle.panel.specs.Keys.{keysNew, rampsNew, keysWhole, rampsWhole}
 use Rattle.panel.specs.Led.{upTo}
@@ -15,7 +17,7 @@ use Rattle.panel.specs.Pins.{pinsNew, pinsWhole}
 use Rattle.script.specs.Script.{scriptNew, frontTime, scriptWhole}
 use Rattle.spi.specs.Spi.{spiNew, spiNext, spiWhole}
 use Rattle.timers.specs.OsTick.{tickNew, tickWhole}
-use Rattle.timers.specs.Timer.{tmrNew, tmrsNext, tmrsWhole}
+use Rattle.timers.specs.Timer.{tmrNew, tmrOf, tmrsNext, tmrsWhole}
 use Rattle.timers.specs.Timer4.{t4New, t4Whole}
 use Rattle.timers.specs.Timer5.{t5New}
 use Rattle.uart.specs.Uart.{uartNew, uartNext, uartWhole}
@@ -88,6 +90,45 @@ frontNext c = min (encsNext (c .enc)) (frontTime (c .script))
 
 unfoldable pub nextEvent : Chip → ℕ
 nextEvent c = min (min (timersNext c) (wiresNext c)) (min (hostNext c) (frontNext c))
+
+-- ---- the host's events: a frame that is due is rearmed, the watchdog runs out once
+
+abbrev pub usbDue : Host → ℕ → Bool
+usbDue h now = leb (h .«usb_next») now
+
+unfoldable pub usbAt : Host → ℕ → Host
+usbAt h now =
+    cond (ltb now (h .«usb_next»)) h
+    (record { «usb_next» = rearmedOf (h .«usb_next») now (h .«usb_period»); «usb_period» = h .«usb_period»; «wdt_at» = h .«wdt_at» })
+
+abbrev pub wdtDue : Host → ℕ → Bool
+wdtDue h now = leb (h .«wdt_at») now
+
+unfoldable pub wdtAt : Host → ℕ → Host
+wdtAt h now = cond (ltb now (h .«wdt_at»)) h (record { «usb_next» = h .«usb_next»; «usb_period» = h .«usb_period»; «wdt_at» = never })
+
+-- ---- what pends, as the blocks keep it
+
+abbrev on : ℕ → Bool
+on flag = not (eqb flag 0)
+
+unfoldable pub pendingOf : Chip → Pending
+pendingOf c = record {
+  ilat = c .latch .ilat;
+  exc = on (c .latch .«exc_pending»);
+  t5 = on (c .t5 .pending);
+  tick = on (c .tick .pending);
+  spi1 = on (c .spi .«spi1_pending»);
+  adc = on (c .adc .irq);
+  spi2 = on (c .spi .«spi2_pending»);
+  uart = on (c .uart .irq);
+  tmr0 = on (tmrOf (c .tmr) 0 .pending);
+  tmr1 = on (tmrOf (c .tmr) 1 .pending);
+  tmr2 = on (tmrOf (c .tmr) 2 .pending);
+  tmr3 = on (tmrOf (c .tmr) 3 .pending);
+  audio = isSet (c .audio .pend) 0xf0;
+  «audio_on» = isSet (c .audio .con0) 0x800;
+}
 
 -- ---- "A record is whole when"
 

@@ -45,11 +45,13 @@ pub record HostOk (h : Host) : Type 0 where
   pub wdt : Deadline (h .«wdt_at»)
   pub period : (h .«usb_next» ≡ never) ⊎ ((1 ≤ h .«usb_period») × (h .«usb_period» ≤ clockMax))
 
+-- each block's facts, and the arrays' lengths, so that what a call makes of a record that has them has them again
 pub record ChipOk (c : Chip) : Type 0 where
   pub clock : ClockOk (c .clock)
   pub t4 : T4Ok (c .t4) (c .clock .cycles)
   pub t5 : T5Ok (c .t5)
   pub tmr : (i : ℕ) → i < 4 → TmrOk (tmrOf (c .tmr) i) (c .clock .cycles)
+  pub tmrs : length (c .tmr) ≡ 4
   pub tick : TickOk (c .tick) (c .clock .cycles)
   pub audio : AudioOk (c .audio)
   pub spi : SpiOk (c .spi)
@@ -58,11 +60,17 @@ pub record ChipOk (c : Chip) : Type 0 where
   pub script : ScriptOk (c .script)
   pub pins : PinsOk (c .pins) (c .clock .cycles)
   pub enc : (i : ℕ) → i < 8 → EncOk (encOf (c .enc) i)
+  pub encs : length (c .enc) ≡ 8
   pub keys : KeysOk (c .keys)
-  -- "`next_due` is no later than the source's `next_event`"
-  pub due : c .clock .«next_due» ≤ nextEvent c
 
-pub record Whole (b : Board) : Type 0 where
+-- all but the word on `next_due`: what holds in the middle of a step, too
+pub record Sound (b : Board) : Type 0 where
   pub chip : ChipOk (b .chip)
   pub ramps : RampsOk (b .panel .ramps) (b .chip .clock .cycles) (b .chip .clock .hz)
+  pub sized : Sized (b .panel .ramps)
   pub light : LightOk (b .chip .pins) (b .panel .acc)
+
+pub record Whole (b : Board) : Type 0 where
+  pub sound : Sound b
+  -- "`next_due` is no later than the source's `next_event`"
+  pub due : b .chip .clock .«next_due» ≤ nextEvent (b .chip)

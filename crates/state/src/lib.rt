@@ -7,7 +7,9 @@ use base::NEVER;
 use base::is_clock;
 use base::is_deadline;
 use base::least;
+use base::rearmed;
 use irq::Latch;
+use irq::Pending;
 use panel::Enc;
 use panel::Keys;
 use panel::Pins;
@@ -42,7 +44,12 @@ ghost use Rattle.state.specs.State.{
   chipWhole,
   panelWhole,
   boardWhole,
+  usbAt,
+  wdtAt,
+  pendingOf,
 };
+ghost use Rattle.state.specs.Whole.{HostOk};
+ghost use Rattle.base.specs.Moments.{clockMax};
 
 // The clock and the runner's settings.
 pub struct Clock {
@@ -135,6 +142,29 @@ impl Host {
         }
     }
 
+    // A frame that is due is rearmed.
+    pub fn usb_at(mut self, now: u64) -> Self
+        requires { ⌜ HostOk self × (now ≤ clockMax) ⌝ }
+        ensures { λ r. ⌜ r ≡ usbAt self now ⌝ }
+    {
+        if now < self.usb_next {
+            return self;
+        }
+        self.usb_next = rearmed(self.usb_next, now, self.usb_period);
+        self
+    }
+
+    // The watchdog runs out once.
+    pub fn wdt_at(mut self, now: u64) -> Self
+        ensures { λ r. ⌜ r ≡ wdtAt self now ⌝ }
+    {
+        if now < self.wdt_at {
+            return self;
+        }
+        self.wdt_at = NEVER;
+        self
+    }
+
     // The period counts while a frame is due at all.
     fn whole(self) -> bool
         ensures { λ r. ⌜ r ≡ hostWhole self ⌝ }
@@ -160,6 +190,33 @@ impl Chip {
         let host = least(self.host.usb_next, self.host.wdt_at);
         let front = least(encs_next(e), self.script.front_time());
         least(least(timers, wires), least(host, front))
+    }
+
+    // What pends, for the choice of an interrupt.
+    pub fn pending(self) -> Pending
+        ensures { λ r. ⌜ r ≡ pendingOf self ⌝ }
+    {
+        let t = self.tmr;
+        let t0 = t[0];
+        let t1 = t[1];
+        let t2 = t[2];
+        let t3 = t[3];
+        Pending {
+            ilat: self.latch.ilat,
+            exc: self.latch.exc_pending != 0,
+            t5: self.t5.pending != 0,
+            tick: self.tick.pending != 0,
+            spi1: self.spi.spi1_pending != 0,
+            adc: self.adc.irq != 0,
+            spi2: self.spi.spi2_pending != 0,
+            uart: self.uart.irq != 0,
+            tmr0: t0.pending != 0,
+            tmr1: t1.pending != 0,
+            tmr2: t2.pending != 0,
+            tmr3: t3.pending != 0,
+            audio: self.audio.pend & 0xf0 != 0,
+            audio_on: self.audio.con0 & 0x800 != 0,
+        }
     }
 
     fn timers_whole(self, now: u64) -> bool

@@ -1,0 +1,12 @@
+use borrow.Author.Needs.{needs}
+use Rattle.script.proofs.nothing.Statement.{statement}
+use Rattle.script.proofs.nothing.Tie as tie
+
+no-entry-requires : tie.Need-no-entry-requires
+no-entry-requires c κs = search needs
+
+returns : tie.Need-returns
+returns c = rw (c .no-entry .ensures)
+
+pub nothing-spec : {M : Type 1} → statement M
+nothing-spec = tie.close (tie.spec no-entry-requires returns)

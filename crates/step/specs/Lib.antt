@@ -1,0 +1,4 @@
+pub mod Stages
+pub mod Apply
+pub mod Reset
+pub mod Step
