@@ -10,8 +10,7 @@ import sys
 sys.path.insert(0, os.path.dirname(os.path.abspath(__file__)))
 sys.dont_write_bytecode = True
 import front
-import panels
-from registers import BANKS, LATCH, RATES, any_address, value_for, wide
+from registers import BANKS, FLAGS, LATCH, NUMBERS, RATES, any_address, bank_word, value_for, wide
 
 END, NEVER = 1 << 53, (1 << 64) - 1
 DIV = [1, 4, 16, 64, 2, 8, 32, 128, 256, 1024, 4096, 16384, 512, 2048, 8192, 32768]
@@ -56,7 +55,7 @@ class Run:
         if kind < 0.55:
             return ["irq 0", "irq 1"]
         if kind < 0.6:
-            return [f"enabled {rng.choice(CORES)} {rng.choice([*panels.NUMBERS, 0, 255])}", "irq 7"]
+            return [f"enabled {rng.choice(CORES)} {rng.choice([*NUMBERS, 0, 255])}", "irq 7"]
         if kind < 0.7:
             return ["pending"]
         if kind < 0.8:
@@ -209,7 +208,11 @@ def as_calls(run, lines):
             yield f"srbyte {int(words[1], 16)}"
         elif words[0] == "step":
             yield run.step(int(words[1]))
-        elif words[0] in ("read", "write", "led", "state"):
+        elif words[0] == "sweep":
+            count, far, con = int(words[1]), int(words[2]), words[3]
+            for _ in range(count):
+                yield from (f"write 13100 {con}", "read 13104", run.step(far))
+        elif words[0] in ("new", "read", "write", "led", "state"):
             yield line
 
 
@@ -217,6 +220,18 @@ def pressure(run, count=6):
     """Presses, pressure and releases, converted on the way through their ramps, by rows driven in every way."""
     for _ in range(count):
         yield from as_calls(run, front.pressed(run.rng, run.rate))
+
+
+def dense(seed):
+    """Whole ramps of force, at every resistance and velocity, converted every few hundred cycles: an input for each ramp's board."""
+    rng = random.Random(f"dense {seed}")
+    made = []
+    for line in as_calls(Run(rng), front.dense(rng)):
+        if line.startswith("new ") and made:
+            yield made
+            made = []
+        made.append(line)
+    yield made
 
 
 def panel(run, count=30):
@@ -332,8 +347,8 @@ def banks(rng):
     """Both banks, few priorities, so that many are equal."""
     for base in BANKS:
         prios = rng.choice([[rng.randrange(8)], [0, 7], range(8), rng.choices(range(8), k=2)])
-        for index in sorted({n // 8 for n in panels.NUMBERS}):
-            yield write(base + 4 * index + rng.choice([0, 0, 1, 3]), panels.bank_word(rng, prios))
+        for index in sorted({n // 8 for n in NUMBERS}):
+            yield write(base + 4 * index + rng.choice([0, 0, 1, 3]), bank_word(rng, prios))
 
 
 def interrupts(run, count=25):
@@ -341,11 +356,11 @@ def interrupts(run, count=25):
     rng = run.rng
     yield from banks(rng)
     for _ in range(count):
-        source = rng.choice([*panels.FLAGS, "audio", "latch", "latch"])
+        source = rng.choice([*FLAGS, "audio", "latch", "latch"])
         yield from raised(run, source) if rng.random() < 0.55 else lowered(run, source)
         yield from ("irq 0", f"irq {rng.choice([1, 1, 7, 0xFFFFFFFF])}")
         if rng.random() < 0.2:
-            yield from ("pending", f"enabled {rng.choice(CORES)} {rng.choice([*panels.NUMBERS, 0, 2, 255])}")
+            yield from ("pending", f"enabled {rng.choice(CORES)} {rng.choice([*NUMBERS, 0, 2, 255])}")
         if rng.random() < 0.1:
             yield from banks(rng)
 
@@ -379,7 +394,7 @@ def polls(run, count=20):
             # an event at a short distance
             yield rng.choice([f"wdt {run.clock + rng.choice([1, 2, 500, 100_000])}", f"apply midi {rng.randrange(256)}", f"push {run.clock + rng.choice([0, 3, 9999])} adc 0 5", f"usb {run.clock + rng.randrange(9999)} {rng.choice([1, 1000, 240_000])}"])
         else:
-            source = rng.choice([*panels.FLAGS, "latch", "high"])
+            source = rng.choice([*FLAGS, "latch", "high"])
             yield from rng.choice([raised, lowered])(run, source)
             yield from ("pending", "idle")
         if rng.random() < 0.3:
@@ -503,7 +518,7 @@ def under_way(run):
     if choice == 3:
         return [*receiver(rng), *[f"apply midi {k}" for k in range(3)], run.step(run.rate // 3125)], [run.step(run.rate // 3125), "read 12100", "state"]
     if choice == 4:
-        return [*raised(run, rng.choice(panels.FLAGS)), f"wdt {run.clock + 50}", f"usb {run.clock + 50} 1000", "spi1 9 4 1", "spi2 9 4 1"], [run.step(50), run.step(run.rate // 1000), "pending"]
+        return [*raised(run, rng.choice(FLAGS)), f"wdt {run.clock + 50}", f"usb {run.clock + 50} 1000", "spi1 9 4 1", "spi2 9 4 1"], [run.step(50), run.step(run.rate // 1000), "pending"]
     return [f"apply enc {rng.randrange(7)} 3", f"push {run.clock + 40} key 20 1", run.step(1)], [run.step(run.rate // 500), "read 50004", "read 50044"]
 
 
@@ -582,6 +597,10 @@ def vectors():
     yield from (new, write(0x10800, 1), f"step {END}", "read 10804", "step 0", "step 1", "tick")
     yield "# TIMER5 and the tick at equal priority: 63; the tick higher: 3."
     yield from (new, write(0x10900, 1), write(0x1EEF0EC, 1), "step 2400000", write(0x1EEF11C, 0x30000000), write(0x1EEF100, 0x3000), "irq 0", write(0x1EEF100, 0x5000), "irq 0", "irq 1")
+    yield "# A button half-way through its press (force 0.5) and pressed (force 1: 806 before noise), against 35 ohms, at some noises."
+    for far in (180_000, 360_000):
+        yield from (new, "apply key 0 1", f"step {far}", *as_calls(Run(random.Random(0)), (*front.latched(0xFFFE), *front.drive(35))))
+        yield from ["write 13100 150", "read 13104"] * 12
     yield "# A clear word reads 0."
     yield from (write(LATCH[0], 0xFF), "read 1eef1a4", "read 1eef1a0")
 

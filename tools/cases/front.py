@@ -1,4 +1,4 @@
-"""Lines for crates/panels: the front panel and the converter; and what the two programs may differ in there."""
+"""The front panel and the converter: scans, presses, conversions, whole ramps of force. Words of its own (`force`, `light`, `encs`, `sweep`) are for board.py to leave out or spell out."""
 
 RATES = [1_000_000, 1_000_001, 23_999_999, 48_000_000, 239_999_999, 240_000_000, 799_999_999, 800_000_000]
 # rows PA7 and PA8: (direction, pull-up, HD0, HD, level) for 312, 132, 51 and 35 ohms, pulled up, low, floating
@@ -118,55 +118,6 @@ def ask(rng):
     return ["read 13104"] if rng.random() < 0.7 else ["reset", "state", "light"]
 
 
-def run(rng, count):
-    """One front from new, at a rate, at times far along the clock."""
-    rate = rng.choice(RATES)
-    yield f"new {rate}"
-    if rng.random() < 0.3:
-        yield f"step {rng.choice([(1 << 53) - 4 * rate, 1 << 52, rng.getrandbits(50)])}"
-    for _ in range(count):
-        kind = rng.random()
-        if kind < 0.05:
-            yield from pressed(rng, rate)
-        elif kind < 0.25:
-            yield from scan(rng)
-        elif kind < 0.65:
-            yield from change(rng, rate)
-        else:
-            yield from ask(rng)
-    yield from ("led", "state", "encs", "light")
-
-
-def lights(rng):
-    """A display's scan: columns in turn, the four lines, whole periods without a change, and the light taken."""
-    yield f"new {rng.choice(RATES)}"
-    for _ in range(rng.choice([3, 11, 40])):
-        yield from latched(0xFFFF ^ 1 << rng.randrange(11) if rng.random() < 0.9 else columns(rng))
-        yield f"write 50000 {rng.choice([0, 0x200, 0x400, 0x600]):x}"
-        yield f"write 501c0 {rng.choice([0, 0x40, 0x200, 0x240]):x}"
-        for _ in range(rng.choice([0, 1, 3])):
-            yield f"step {rng.choice([0, 1, 1000, rng.getrandbits(20), rng.getrandbits(40)])}"
-            yield f"write 50000 {rng.choice([0x200, 0x600, 0x608]):x}"
-        if rng.random() < 0.1:
-            yield rng.choice(["led", "reset", "light", "state"])
-    yield from ("led", "led", "state")
-
-
-def limits():
-    """Lines that ask nothing, and the ends of the clock and of each number."""
-    yield from ("new 999999", "new 800000001", "new 1000000", "step 9007199254740993", "step 9007199254740992", "step 1", "step 0", "state", "write 13100 50", "led")
-    yield from ("key 0 2", "key 256 1", "key 41 1", "key 255 1", "vel 256", "vel 0", "state", "pressure 14 256", "enc 0 2147483648", "enc 0 -2147483649", "enc 0 -2147483648", "encs")
-    yield from ("enc 0 -", "enc 0 --1", "enc 0 +1", "enc 256 1", "adc 16 1", "adc 0 65536", "adc 0 65535", "srbyte 100", "srbyte ff", "force 41", "force 40", "sweep 2001 1 50", "sweep 1 1", "sweep 0 0 50", "read 50000", "write 50004 0", "write 13104 5", "led 1")
-
-
-def vectors():
-    """01's: a button half-way through its press; force 1 against 35 ohms, 806 before noise, at three noises."""
-    yield from ("new 240000000", "key 0 1", "step 180000", "force 0", "step 180000", "force 0", *latched(0xFFFE), *drive(35))
-    for _ in range(12):
-        yield from ("write 13100 150", "read 13104")
-    yield from ("read 1eef1a4",)
-
-
 def swept(kind, channel, hz, step, before, after):
     """Conversions through a whole ramp that `before` begins, of so many cycles."""
     yield before
@@ -200,7 +151,7 @@ def buttons(rng, hz, kind, step):
     yield from swept(kind, 1, hz, step, "key 0 0", RELEASE(hz))
 
 
-def dense(rng, count):
+def dense(rng):
     """Every resistance, every velocity, whole ramps: at 240 MHz in steps of some hundred cycles; at other rates in about as many steps."""
     for kind in (35, 51, 132, 312, 10000):
         for vel in range(1, 128):
@@ -209,91 +160,3 @@ def dense(rng, count):
         for hz in RATES:
             for vel in (1, 127, *rng.choices(range(2, 127), k=4)):
                 yield from ramps(rng, hz, kind, vel, tuple(max(1, ramp(hz) // rng.randint(900, 1500)) for ramp in (PRESS, PRESSURE, RELEASE)))
-
-
-def lines(rng, count):
-    yield from limits()
-    yield from vectors()
-    while count > 0:
-        for part in (list(run(rng, rng.choice([40, 150, 400]))), list(lights(rng))):
-            yield from part
-            count -= len(part)
-
-
-def stored(rng):
-    yield "# The front panel and the converter: 01's vectors, lines that ask nothing, random runs, lit LEDs, whole ramps."
-    yield from vectors()
-    yield from limits()
-    for _ in range(10):
-        yield from run(rng, 100)
-    for _ in range(4):
-        yield from lights(rng)
-    for kind in (35, 51, 132, 312, 10000):
-        yield from ramps(rng, 240_000_000, kind, rng.randrange(1, 128), (18_000, 240_000, 96_000))
-
-
-# ---- what may differ: a reading of a pressed row, by one
-
-FACTOR, TERM, WORD = 1_103_515_245, 12_345, 1 << 32
-
-
-def moved(noise, n):
-    """The noise generator n values on."""
-    power = pow(FACTOR, n, WORD * (FACTOR - 1))
-    return (power * noise + (power - 1) // (FACTOR - 1) * TERM) % WORD
-
-
-class Near:
-    """Holds the two programs' lines against each other: equal, but for a value that was worked out and is below 1023, where one is allowed. The noise,
-    which both print, says whether a value was worked out: a row that is low or floats and any other channel leave it."""
-
-    def __init__(self):
-        self.same = self.one = self.edge = self.open = self.exact = 0
-        self.noise, self.worked = 1, False
-
-    def near(self, port, rust):
-        words, other = port.split(b" "), rust.split(b" ")
-        if words[0] in (b"new", b"reset") and words[-1] == b"0":
-            self.noise, self.worked = 1, False
-        if words[:2] == [b"write", b"13100"] and len(words) == 7:
-            # a write that starts no conversion leaves the last one's value
-            if int(words[2], 16) & 0x50 == 0x50:
-                self.worked = int(words[6], 16) != self.noise
-            self.noise = int(words[6], 16)
-        if words[0] == b"sweep" and len(words) == 7 and len(other) == 7 and words[:5] == other[:5] and words[6] == other[6]:
-            return self.sweep(int(words[1]), words[5], other[5], int(words[6], 16))
-        if words[:2] == [b"read", b"13104"] and len(words) == 4 and words[:3] == other[:3] and self.worked:
-            return self.reading(int(words[3], 16), int(other[3], 16), self.noise)
-        self.exact += words[:2] == [b"read", b"13104"]
-        return port == rust
-
-    def reading(self, port, rust, noise):
-        if port == rust == 1023:
-            self.open += 1
-            return True
-        self.same += port == rust
-        self.one += abs(port - rust) == 1
-        # with a noise of -1 a value below 1023 reads at most 1022
-        self.edge += (noise >> 16) % 3 == 0 and (port == 1023) != (rust == 1023)
-        return abs(port - rust) <= 1
-
-    def sweep(self, count, port, rust, noise):
-        before, self.noise = self.noise, noise
-        self.worked = count > 0 and moved(before, count) == noise
-        if not self.worked or len(port) != 3 * count or len(rust) != 3 * count:
-            self.exact += count
-            return port == rust
-        if port == rust:
-            still = sum(port[k : k + 3] == b"3ff" for k in range(0, len(port), 3))
-            self.open += still
-            self.same += count - still
-            return True
-        good = True
-        for k in range(0, len(port), 3):
-            before = (before * FACTOR + TERM) % WORD
-            good &= self.reading(int(port[k : k + 3], 16), int(rust[k : k + 3], 16), before)
-        return good
-
-    def told(self):
-        pressed = f"{self.same + self.one} readings of a pressed row, {self.same} equal, {self.one} off by one ({self.edge} of them with noise -1 and 1023 before noise on one side only)"
-        return f"{pressed}; {self.open} of 1023 on both sides; {self.exact} of no value worked out, equal"

@@ -17,10 +17,20 @@ CONVERTER = [0x13100, 0x13104]
 # the SMK-37's, the flash chip select, P33's and the blocks' neighbours, none of them the board's
 STRANGE = [0x501C4, 0x500C0, 0x50200, 0x4FFFC, 0x13E08, 0x13E0C, 0x10300, 0x1040C, 0x10410, 0x1080C, 0x1211E, 0x12108, 0x12E10, 0x12E24, 0x13108, 0, 0xFFFFFFFF, 0x1EEF0E8, 0x1EEF0F8, 0x1EEF1A8]
 
+# what can pend, and the numbers that the source knows
+FLAGS = ["exc", "t5", "tick", "spi1", "adc", "spi2", "uart", "tmr0", "tmr1", "tmr2", "tmr3"]
+NUMBERS = [1, 3, 4, 5, 6, 7, 11, 16, 20, 24, 37, 63, *range(120, 128)]
 
 def wide(rng, bits):
     """A number of up to so many bits, small and large ones as often."""
     return rng.getrandbits(rng.randint(1, bits))
+
+
+def bank_word(rng, prios):
+    """Eight nibbles, most of them enabled, of few priorities."""
+    if rng.random() < 0.1:
+        return rng.choice([0, 0xFFFFFFFF, rng.getrandbits(32)])
+    return sum((rng.choice(prios) << 1 | (rng.random() < 0.8)) << 4 * k for k in range(8))
 
 
 def bank_address(rng):

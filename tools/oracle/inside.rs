@@ -70,64 +70,10 @@ pub mod inside {
         p.next_event()
     }
 
-    /// A source's flag, by the name that crates/panels gives it.
-    pub fn pend(p: &mut Periph, name: &str, on: bool) -> Option<()> {
-        let flag = match name {
-            "exc" => &mut p.exc_pending,
-            "t5" => &mut p.t5_pending,
-            "tick" => &mut p.tick_pending,
-            "spi1" => &mut p.spi1_pending,
-            "adc" => &mut p.adc_irq,
-            "spi2" => &mut p.spi2_pending,
-            "uart" => &mut p.uart_irq,
-            "tmr0" => &mut p.tmr[0].pending,
-            "tmr1" => &mut p.tmr[1].pending,
-            "tmr2" => &mut p.tmr[2].pending,
-            "tmr3" => &mut p.tmr[3].pending,
-            _ => return None,
-        };
-        *flag = on;
-        Some(())
-    }
-
-    pub fn audio(p: &mut Periph, pend: u32, con0: u32) {
-        (p.alnk_pend, p.alnk_con0) = (pend, con0);
-    }
-
-    /// The UART's interrupt line.
-    pub fn uart_line(p: &Periph) -> bool {
-        p.uart_irq
-    }
-
     // ---- the front panel and the converter
-
-    /// A step that is served, whatever is due: what the port's harness does.
-    pub fn serve(p: &mut Periph, n: u64) {
-        p.next_due = 0;
-        p.advance(n);
-    }
-
-    /// A write of the converter's CON: handled, whether it sets `next_due` to 0, and the noise after it.
-    pub fn convert(p: &mut Periph, v: u32) -> (bool, bool, u32) {
-        p.next_due = u64::MAX;
-        let handled = p.write(0x13100, v);
-        (handled, p.next_due == 0, p.adc_noise)
-    }
-
-    pub fn noise(p: &Periph) -> u32 {
-        p.adc_noise
-    }
 
     pub fn reset(p: &mut Periph) {
         p.chip_reset();
-    }
-
-    pub fn force(p: &Periph, id: usize) -> Option<u32> {
-        p.key_force.get(id).map(|r| r.at(p.cycles).to_bits())
-    }
-
-    pub fn light(p: &Periph) -> &[u64; 41] {
-        &p.led_acc
     }
 
     /// Lit cycles and span, and whether their quotients as f32 are what `led_take` answers. To credit twice at one moment changes nothing.
@@ -138,17 +84,6 @@ pub mod inside {
         let taken = p.led_take();
         let same = lit.iter().zip(taken).all(|(&l, f)| (l as f32 / span as f32).to_bits() == f.to_bits());
         (lit, span, same)
-    }
-
-    pub fn encs(p: &Periph) -> String {
-        (0..8).map(|i| format!("{}/{:08x}/{} ", p.enc_state[i], p.enc_pending[i] as u32, p.enc_next[i])).collect()
-    }
-
-    pub fn front(p: &Periph) -> String {
-        let down = p.keys_down.iter().rev().fold(0u64, |n, &d| n << 1 | d as u64);
-        let light = format!("lines {} at {} last {} since {} pend {}", p.led_key.0, p.led_key.1, p.led_last, p.led_since, p.led_pend);
-        let held = format!("down {} vel {} noise {} done {} line {}", down, p.key_vel, p.adc_noise, p.adc_done as u8, p.adc_irq as u8);
-        format!("clock {} shift {} latched {} {light} {held}", p.cycles, p.sr_shift, p.sr_latched)
     }
 
     // ---- the board

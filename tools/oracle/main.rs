@@ -1,7 +1,6 @@
 //! The original as judge. Reads the lines that the port's programs read and writes the lines that they must write.
 //!
-//!     oracle asks   < lines     names, times, records and the timed blocks, a line each: see crates/asks
-//!     oracle panels < lines     interrupts, the front panel and the converter, a line each: see crates/panels
+//!     oracle asks   < lines     names, times and records, a line each: see crates/asks
 //!     oracle calls  < lines     the board's calls and the port's, a line each: see crates/calls
 //!     oracle driver < records   document 01's driver
 //!     oracle ramps              ms_cycles at every permitted rate, against 01's whole numbers
@@ -13,13 +12,12 @@
 mod board;
 mod calls;
 mod driver;
-mod panels;
 mod records;
 mod words;
 
 use periph::inside;
 use std::io::{self, BufRead, BufWriter, Read, Write};
-use words::{bytes_of, decimal, flag, hex, number};
+use words::{bytes_of, decimal, number};
 
 #[derive(Clone, Copy, PartialEq, Eq, Debug)]
 pub enum Board {
@@ -30,15 +28,7 @@ pub enum Board {
 fn main() {
     let words: Vec<String> = std::env::args().skip(1).collect();
     match words.iter().map(|w| w.as_str()).collect::<Vec<_>>()[..] {
-        ["asks"] => {
-            let mut board = inside::at(240_000_000, 0);
-            lines(|words| ask(words).or_else(|| timed(&mut board, words)))
-        }
-        ["panels"] => {
-            // the two parts know nothing of each other: a board each
-            let (mut irqs, mut front) = (inside::at(240_000_000, 0), inside::at(240_000_000, 0));
-            lines(|words| panels::irqs(&mut irqs, words).or_else(|| panels::front(&mut front, words)))
-        }
+        ["asks"] => lines(ask),
         ["calls"] => {
             let mut on = calls::On::new();
             lines(|words| calls::answer(&mut on, words))
@@ -153,64 +143,6 @@ fn baud(n: u32) -> Option<u32> {
 /// The outer `None`: no such thing. The inner: bytes that are no text, which name nothing.
 fn name(word: &str) -> Option<Option<String>> {
     bytes_of(word).map(|bytes| String::from_utf8(bytes).ok())
-}
-
-/// The registers of the timed blocks; any other address is none of theirs.
-fn timed_register(addr: u32) -> bool {
-    matches!(addr, 0x10800 | 0x10804 | 0x10808 | 0x10900 | 0x10904 | 0x10908 | 0x12100 | 0x12110 | 0x12118 | 0x1211c | 0x12120 | 0x12124 | 0x12128)
-        || matches!(addr, 0x12e00 | 0x12e04 | 0x12e08 | 0x12e0c | 0x12e1c | 0x12e20 | 0x1eef0ec | 0x1eef0f0 | 0x1eef0f4)
-        || (0x10400..0x10800).contains(&addr) && matches!(addr & 0xff, 0 | 4 | 8)
-}
-
-fn timed(p: &mut periph::Periph, words: &[&str]) -> Option<String> {
-    let n = |k: usize| words.get(k).and_then(|w| number(w));
-    let n32 = |k: usize| words.get(k).and_then(|w| decimal(w));
-    let flag = |k: usize| words.get(k).and_then(|w| flag(w));
-    let hex = |k: usize| words.get(k).and_then(|w| hex(w));
-    let answer = match (words[0], words.len()) {
-        ("new", 2) => {
-            *p = inside::at(hz(n32(1)?)?, 0);
-            "0".into()
-        }
-        ("skip", 2) => {
-            p.skip_idle = flag(1)?;
-            "0".into()
-        }
-        ("read", 2) => {
-            let addr = hex(1).filter(|&a| timed_register(a))?;
-            let value = p.read(addr).map_or("none".into(), |v| format!("{v:08x}"));
-            if p.skip_idle { format!("{value} {} {}", p.cycles, p.skipped) } else { value }
-        }
-        ("write", 3) => (p.write(hex(1).filter(|&a| timed_register(a))?, hex(2)?) as u8).to_string(),
-        ("step", 2) => {
-            let due = p.advance(n(1).filter(|&n| n <= (1 << 53) - p.cycles)?);
-            let half = due.audio_half.map_or("-".into(), |(addr, words)| format!("{addr:08x}/{words}"));
-            let byte = due.uart_rx.map_or("-".into(), |(addr, b)| format!("{addr:08x}/{b:02x}"));
-            format!("{} {half} {byte}", p.cycles)
-        }
-        ("midi", 2) => {
-            p.apply(&periph::Action::Midi { b: n(1).and_then(|v| u8::try_from(v).ok())? });
-            "0".into()
-        }
-        ("spi1", 4) => {
-            p.spi1_start(bytes(n32(1)?)?, baud(n32(2)?)?, flag(3)?);
-            format!("{} {}", p.spi1_done_at, p.spi1_wire)
-        }
-        ("spi2", 4) => {
-            p.spi2_start(bytes(n32(1)?)?, baud(n32(2)?)?, flag(3)?);
-            "0".into()
-        }
-        ("spi1off", 1) => {
-            p.spi1_irq_off();
-            "0".into()
-        }
-        ("state", 1) => format!(
-            "clock {} skipped {} halves {} queued {} dropped {} line {} spi1 {} spi2 {} next {}",
-            p.cycles, p.skipped, p.audio_halves, p.midi_queued(), p.midi_dropped(), inside::uart_line(p) as u8, p.spi1_pending as u8, p.spi2_pending as u8, inside::next_event(p)
-        ),
-        _ => return None,
-    };
-    Some(answer)
 }
 
 fn ramps() {

@@ -1,7 +1,5 @@
 // What a line asks, and its answer. Words are read in order; which question it is goes by their number and the first.
-use crate::blocks::Blocks;
 use crate::record::put_record;
-use crate::timed::Said;
 use names::Id;
 use text::Number;
 use text::Span;
@@ -25,25 +23,15 @@ pub enum Answer {
     Unknown,
 }
 
-// The answer where the line asks a leaf, else what the timed blocks say to it.
-pub fn put_answer(out: &mut [u8], at: usize, line: &[u8], queue: &mut [u8], b: Blocks) -> Said {
+pub fn put_answer(out: &mut [u8], at: usize, line: &[u8]) -> usize {
     let verb = word(line, 0);
     if is(line, verb, b"record") {
-        return Said {
-            out: put_found(out, at, line, word(line, verb.to)),
-            blocks: b,
-        };
+        return put_found(out, at, line, word(line, verb.to));
     }
     match ask(line) {
-        Answer::Number(n) => Said {
-            out: put_decimal(out, at, n),
-            blocks: b,
-        },
-        Answer::Nothing => Said {
-            out: put_text(out, at, b"none"),
-            blocks: b,
-        },
-        Answer::Unknown => crate::timed::put_answer(out, at, line, queue, b),
+        Answer::Number(n) => put_decimal(out, at, n),
+        Answer::Nothing => put_text(out, at, b"none"),
+        Answer::Unknown => put_text(out, at, b"?"),
     }
 }
 

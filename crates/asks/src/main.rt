@@ -1,4 +1,4 @@
-// Names, times, records and the timed blocks as lines of text: each line is answered with itself, ` = ` and the result, `?` where it asks nothing that
+// Names, times and records as lines of text: each line is answered with itself, ` = ` and the result, `?` where it asks nothing that
 // is known here or lies outside 01's domain. The original answers the same lines (tools/oracle), so the two outputs must be
 // equal to the byte: crates/asks/stdout is the original's, tools/compare runs both on more.
 //
@@ -17,45 +17,28 @@
 //     wdt CON                         the watchdog's milliseconds for a control byte
 //     record HEX AT                   the record at that offset of some bytes: time, action and where the next begins
 //
-// The timed blocks stand beside a clock, at 240 MHz from the start (addresses, values and bytes are hex):
-//
-//     new HZ, skip 0|1                the blocks anew; whether a TIMER4 poll may jump
-//     read A, write A V               a register: its value (with skipping on also the clock and what was skipped); 1 or 0
-//     step N                          the clock, the audio half (address/words or `-`), the byte (address/byte or `-`)
-//     midi B                          a byte into the jack
-//     spi1 BYTES BAUD IRQ, spi2 BYTES BAUD IRQ, spi1off   transfers: SPI1's end and its time on the wire
-//     state                           what no register shows
-//
 // Words are separated by spaces, other numbers are decimal. Empty lines and lines that begin with `#` answer nothing. A line of more
 // than 4,096 bytes is answered `? = ?`.
 mod ask;
-mod blocks;
 mod record;
-mod timed;
 
-use blocks::Blocks;
 use text::first;
 use text::put;
 use text::put_text;
-use timed::Said;
 
-// The line so far, the answers that wait, and the blocks.
+// The line so far, and the answers that wait.
 struct Went {
     line: usize,
-    said: Said,
+    out: usize,
 }
 
 fn main() {
     let mut input = [0u8; 65536];
     let mut line = [0u8; 4097];
     let mut out = [0u8; 65536];
-    let mut queue = [0u8; 3125];
     let mut went = Went {
         line: 0,
-        said: Said {
-            out: 0,
-            blocks: blocks::new(240_000_000),
-        },
+        out: 0,
     };
     let mut turns = u64::MAX;
     while 0 < turns {
@@ -64,23 +47,22 @@ fn main() {
         if got == 0 {
             break;
         }
-        went = chunk(first(&input, got), &mut line, &mut out, &mut queue, went);
+        went = chunk(first(&input, got), &mut line, &mut out, went);
     }
-    let said = went.said;
-    let last = ended(&line, went.line, &mut out, &mut queue, said);
-    flush(&out, last.out);
+    let last = ended(&line, went.line, &mut out, went.out);
+    flush(&out, last);
 }
 
 // The bytes of one read: a line's end answers it, any other byte joins the line. A full line is too long, and stays so.
-fn chunk(input: &[u8], line: &mut [u8], out: &mut [u8], queue: &mut [u8], went: Went) -> Went {
+fn chunk(input: &[u8], line: &mut [u8], out: &mut [u8], went: Went) -> Went {
     let mut n = went.line;
-    let mut said = went.said;
+    let mut to = went.out;
     let mut i: usize = 0;
     while i < input.len() {
         let b = input[i];
         i = i + 1;
         if b == b'\n' {
-            said = ended(line, n, out, queue, said);
+            to = ended(line, n, out, to);
             n = 0;
         } else {
             n = put(line, n, b);
@@ -88,21 +70,17 @@ fn chunk(input: &[u8], line: &mut [u8], out: &mut [u8], queue: &mut [u8], went: 
     }
     Went {
         line: n,
-        said: said,
+        out: to,
     }
 }
 
 // The line is answered; what waits is written out before there could be no room for the next answer.
-fn ended(line: &[u8], n: usize, out: &mut [u8], queue: &mut [u8], said: Said) -> Said {
-    let b = said.blocks;
-    let to = flushed(out, said.out);
+fn ended(line: &[u8], n: usize, out: &mut [u8], waits: usize) -> usize {
+    let to = flushed(out, waits);
     if n < line.len() {
-        return answered(first(line, n), out, to, queue, b);
+        return answered(first(line, n), out, to);
     }
-    Said {
-        out: put_text(out, to, b"? = ?\n"),
-        blocks: b,
-    }
+    put_text(out, to, b"? = ?\n")
 }
 
 fn flushed(out: &[u8], to: usize) -> usize {
@@ -117,19 +95,12 @@ fn flush(out: &[u8], n: usize) {
     io::write_all(libc::STDOUT_FILENO, first(out, n));
 }
 
-fn answered(line: &[u8], out: &mut [u8], at: usize, queue: &mut [u8], blocks: Blocks) -> Said {
+fn answered(line: &[u8], out: &mut [u8], at: usize) -> usize {
     if text::is_passed_over(line) {
-        return Said {
-            out: at,
-            blocks: blocks,
-        };
+        return at;
     }
     let told = put_text(out, at, line);
     let equals = put_text(out, told, b" = ");
-    let said = ask::put_answer(out, equals, line, queue, blocks);
-    let b = said.blocks;
-    Said {
-        out: put(out, said.out, b'\n'),
-        blocks: b,
-    }
+    let said = ask::put_answer(out, equals, line);
+    put(out, said, b'\n')
 }

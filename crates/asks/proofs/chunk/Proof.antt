@@ -6,11 +6,11 @@ use Rattle.asks.proofs.chunk.Statement.{statement}
 use Rattle.asks.proofs.chunk.Tie as tie
 
 abbrev Inv-loop : tie.InvT-loop
-Inv-loop input line₀ out₀ queue₀ n₀ said₀ i₀ line out queue n said i =
-    (length line ≡ length line₀) × (length out ≡ length out₀) × (length queue ≡ length queue₀)
+Inv-loop input line₀ out₀ n₀ to₀ i₀ line out n to i =
+    (length line ≡ length line₀) × (length out ≡ length out₀)
 
 abbrev μ-loop : tie.MeasureT-loop
-μ-loop input line₀ out₀ queue₀ n₀ said₀ i₀ line out queue n said i = length input - i
+μ-loop input line₀ out₀ n₀ to₀ i₀ line out n to i = length input - i
 
 loop-holds : tie.Need-loop-holds Inv-loop μ-loop
 loop-holds c = search needs
@@ -45,9 +45,6 @@ same-length c = search needs
 same-length-2 : tie.Need-same-length-2 Inv-loop μ-loop
 same-length-2 c = search needs
 
-same-length-3 : tie.Need-same-length-3 Inv-loop μ-loop
-same-length-3 c = search needs
-
 returns : tie.Need-returns Inv-loop μ-loop
 returns c = search needs
 
@@ -68,5 +65,4 @@ chunk-spec =
     loop-again-2
     same-length
     same-length-2
-    same-length-3
     returns)

@@ -5,14 +5,11 @@ use Rattle.asks.proofs.main.Statement.{statement}
 use Rattle.asks.proofs.main.Tie as tie
 
 abbrev Inv-loop : tie.InvT-loop
-Inv-loop input₀ line₀ out₀ queue₀ went₀ turns₀ input line out queue went turns =
-    (65536 ≡ length input) × (4097 ≡ length line) × (65536 ≡ length out) × (3125 ≡ length queue)
+Inv-loop input₀ line₀ out₀ went₀ turns₀ input line out went turns =
+    (65536 ≡ length input) × (4097 ≡ length line) × (65536 ≡ length out)
 
 abbrev μ-loop : tie.MeasureT-loop
-μ-loop input₀ line₀ out₀ queue₀ went₀ turns₀ input line out queue went turns = turns
-
-new-requires : tie.Need-new-requires Inv-loop μ-loop
-new-requires c κs = search needs
+μ-loop input₀ line₀ out₀ went₀ turns₀ input line out went turns = turns
 
 loop-holds : tie.Need-loop-holds Inv-loop μ-loop
 loop-holds c = search needs
@@ -38,9 +35,6 @@ slice-aggregate-chunk c = search needs
 slice-aggregate-chunk-2 : tie.Need-slice-aggregate-chunk-2 Inv-loop μ-loop
 slice-aggregate-chunk-2 c = search needs
 
-slice-aggregate-chunk-3 : tie.Need-slice-aggregate-chunk-3 Inv-loop μ-loop
-slice-aggregate-chunk-3 c = search needs
-
 chunk-requires : tie.Need-chunk-requires Inv-loop μ-loop
 chunk-requires c κs = search needs
 
@@ -55,9 +49,6 @@ slice-aggregate-ended c = search needs
 
 slice-aggregate-ended-2 : tie.Need-slice-aggregate-ended-2 Inv-loop μ-loop
 slice-aggregate-ended-2 c = search needs
-
-slice-aggregate-ended-3 : tie.Need-slice-aggregate-ended-3 Inv-loop μ-loop
-slice-aggregate-ended-3 c = search needs
 
 ended-requires : tie.Need-ended-requires Inv-loop μ-loop
 ended-requires c κs = search needs
@@ -77,7 +68,6 @@ main-spec =
     (tie.spec
     Inv-loop
     μ-loop
-    new-requires
     loop-holds
     sub-turns
     slice-aggregate-read-full
@@ -86,13 +76,11 @@ main-spec =
     first-requires
     slice-aggregate-chunk
     slice-aggregate-chunk-2
-    slice-aggregate-chunk-3
     chunk-requires
     loop-less
     loop-again
     slice-aggregate-ended
     slice-aggregate-ended-2
-    slice-aggregate-ended-3
     ended-requires
     slice-aggregate-flush
     flush-requires

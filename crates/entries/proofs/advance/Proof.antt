@@ -232,16 +232,16 @@ module _ {M : Type 1} (𝓤 : URA M) (H : Heap 𝓤) (A : Atoms 𝓤) (W : Given
       -- the exit
       (Done : Stepped → Val → Fml) (Post : Val → SProp 𝓤)
       (exits : (r : Stepped) (v : Val) (qs os : List ℕ) → length qs ≡ length xs₁ → length os ≡ length xs₃ → (r ≡ finishedOf (Goal .0)) × (qs ≡ Goal .1 .0) × (os ≡ Goal .1 .1)
-          → ent 𝓤 (⋆ 𝓤 H A (Had Done r v qs os)) (Post v))
+      → ent 𝓤 (⋆ 𝓤 H A (Had Done r v qs os)) (Post v))
       -- the calls
       (front-runs : ent 𝓤 (emp 𝓤) (C #front (vB ∷ []) (λ v. mean 𝓤 H A (Said 𝓤 ((v ≡ vint w64 (frontPlace bd)) × (frontPlace bd < 2 ^ 64))))))
       (look-runs : (n : ℕ) → n < 2 ^ 64 → ent 𝓤 (sep 𝓤 (A .lft κ₂ q₂) (sem 𝓤 H A Own₂)) (C #look (s₂ ∷ vint w64 n ∷ []) (λ v. mean 𝓤 H A (Fronted 𝓤 κ₂ q₂ ys n v))))
       (begun-runs : (ν₁ : ℕ) (δ₁ : GName) (ν₃ : ℕ) (δ₃ : GName) (f₀ : Front) → Is F.the-row f₀ (mF f₀ ∷ []) → ent 𝓤 (⋆ 𝓤 H A (Lent ν₁ δ₁ ν₃ δ₃ xs₁ xs₃))
-          (C #begun (vB ∷ vint w64 cy ∷ mF f₀ ∷ s₁ ∷ s₃ ∷ []) (λ w. mean 𝓤 H A (Ended ν₁ δ₁ ν₃ δ₃ (Turn mG Good xs₁ xs₃ (Began f₀) w)))))
+      (C #begun (vB ∷ vint w64 cy ∷ mF f₀ ∷ s₁ ∷ s₃ ∷ []) (λ w. mean 𝓤 H A (Ended ν₁ δ₁ ν₃ δ₃ (Turn mG Good xs₁ xs₃ (Began f₀) w)))))
       (goes-runs : (g : Going) → Good g → ent 𝓤 (emp 𝓤) (C #goes (mG g ∷ []) (λ v. mean 𝓤 H A (Said 𝓤 (v ≡ vbool (g .on))))))
       (place-runs : (g : Going) → Good g → ent 𝓤 (emp 𝓤) (C #place (mG g ∷ []) (λ v. mean 𝓤 H A (Said 𝓤 (v ≡ vint w64 (g .place))))))
       (turned-runs : (ν₁ : ℕ) (δ₁ : GName) (ν₃ : ℕ) (δ₃ : GName) (g : Going) (e : Entry) (qs os : List ℕ) → length qs ≡ length xs₁ → length os ≡ length xs₃ → Good g → Is E.the-row e (mE e ∷ []) → Ready g (length qs) (length os)
-          → ent 𝓤 (⋆ 𝓤 H A (Lent ν₁ δ₁ ν₃ δ₃ qs os)) (C #turned (mG g ∷ mE e ∷ s₁ ∷ s₃ ∷ []) (λ w. mean 𝓤 H A (Ended ν₁ δ₁ ν₃ δ₃ (Turn mG Good qs os (Right g e qs os) w)))))
+      → ent 𝓤 (⋆ 𝓤 H A (Lent ν₁ δ₁ ν₃ δ₃ qs os)) (C #turned (mG g ∷ mE e ∷ s₁ ∷ s₃ ∷ []) (λ w. mean 𝓤 H A (Ended ν₁ δ₁ ν₃ δ₃ (Turn mG Good qs os (Right g e qs os) w)))))
       (finished-runs : (g : Going) → Good g → ent 𝓤 (emp 𝓤) (C #finished (mG g ∷ []) (λ v. mean 𝓤 H A (Answered Done tE g v))))
       (starts : (r : Going) → r ≡ begunOf bd cy (frontOf ys (frontPlace bd)) xs₁ xs₃ → Kept (r, (xs₁, xs₃))) where
     module _ (l₀ l₁ l₂ l₃ l₄ l₅ l₆ l₇ l₈ l₉ l₁₀ l₁₁ l₁₂ l₁₃ l₁₄ l₁₅ l₁₆ l₁₇ l₁₈ l₁₉ l₂₀ l₂₁ : ℕ) where

@@ -182,7 +182,7 @@ module _ {M : Type 1} (𝓤 : URA M) (H : Heap 𝓤) (A : Atoms 𝓤) (W : Given
       (exits : (r : Done) (v : Val) (zs₃ zs₄ : List ℕ) → length zs₃ ≡ length xs₃ → length zs₄ ≡ length xs₄ → Right hz (length xs₁) (length ys) xs₃ xs₄ r zs₃ zs₄ → ent 𝓤 (⋆ 𝓤 H A (Had Answer r v zs₃ zs₄)) (Post v))
       (look-runs : (n : ℕ) → n < 2 ^ 64 → ent 𝓤 (sep 𝓤 (A .lft κ₂ q₂) (sem 𝓤 H A Own₂)) (C #look (s₂ ∷ vint w64 n ∷ []) (λ v. mean 𝓤 H A (Fronted 𝓤 κ₂ q₂ ys n v))))
       (made-runs : (ν₃ : ℕ) (δ₃ : GName) (ν₄ : ℕ) (δ₄ : GName) (n : ℕ) → n < 2 ^ 64 → ent 𝓤 (⋆ 𝓤 H A (Lent ν₃ δ₃ ν₄ δ₄))
-          (C #made (vint w64 hz ∷ vint w64 (length xs₁) ∷ vint w64 n ∷ s₃ ∷ s₄ ∷ []) (λ w. mean 𝓤 H A (Ended Answer ν₃ δ₃ ν₄ δ₄ (Turn tE n) w)))) where
+      (C #made (vint w64 hz ∷ vint w64 (length xs₁) ∷ vint w64 n ∷ s₃ ∷ s₄ ∷ []) (λ w. mean 𝓤 H A (Ended Answer ν₃ δ₃ ν₄ δ₄ (Turn tE n) w)))) where
     walk : ent 𝓤 (⋆ 𝓤 H A Start) (WpFn 𝓤 H C Λ (fn tE) (vint w64 hz ∷ s₁ ∷ s₂ ∷ s₃ ∷ s₄ ∷ []) Post)
     walk =
         qed W Start ∵ enter ! C Λ (fn tE) (vint w64 hz ∷ s₁ ∷ s₂ ∷ s₃ ∷ s₄ ∷ []) _ $
@@ -267,7 +267,7 @@ module _ {M : Type 1} (𝓤 : URA M) (H : Heap 𝓤) (A : Atoms 𝓤) (W : Given
         qed W (later (some (λ (r : Done). ((‵ (flft (ν₃ ∷ []) fullShare) ⊛ (‵ (flft (ν₄ ∷ []) fullShare) ⊛ ‵ ftrue)) ⊛ ‵ (D.the-row .own r (w ∷ []))) ⊛ raw (ensured 𝓤 H A made.ended (made.clauses 𝓤 H A mem run) (ν₃ ∷ [], (ν₄ ∷ [], tt)) given tt r))) ∷ []) ∵
         updating ! $ await ! tt $ pick ! (λ r. split ! $ move ! (1 ∷ []) $
         use1 W (some (λ (zs : Unit {0} × (Unit {0} × (Unit {0} × (List ℕ × (List ℕ × Unit {0}))))). ‵ (lasts made.ended (ν₃ ∷ [], (ν₄ ∷ [], tt)) given zs) ⊛ (raw (fact 𝓤 (r ≡ newCall hz (length xs₁) n (length xs₃) (length xs₄)))
-            ⊛ (raw (fact 𝓤 (zs .1 .1 .1 .0 ≡ newBank (newRefused hz (length xs₁) n (length xs₃) (length xs₄)) xs₃)) ⊛ raw (fact 𝓤 (zs .1 .1 .1 .1 .0 ≡ newBank (newRefused hz (length xs₁) n (length xs₃) (length xs₄)) xs₄)))))) (id⊢ 𝓤 _) $ pick ! (λ zs.
+        ⊛ (raw (fact 𝓤 (zs .1 .1 .1 .0 ≡ newBank (newRefused hz (length xs₁) n (length xs₃) (length xs₄)) xs₃)) ⊛ raw (fact 𝓤 (zs .1 .1 .1 .1 .0 ≡ newBank (newRefused hz (length xs₁) n (length xs₃) (length xs₄)) xs₄)))))) (id⊢ 𝓤 _) $ pick ! (λ zs.
         split ! $ move ! (1 ∷ []) $ split ! $ heard ! (r ≡ newCall hz (length xs₁) n (length xs₃) (length xs₄)) (λ e. split ! $ heard ! (zs .1 .1 .1 .0 ≡ newBank (newRefused hz (length xs₁) n (length xs₃) (length xs₄)) xs₃) (λ e₃.
         heard ! (zs .1 .1 .1 .1 .0 ≡ newBank (newRefused hz (length xs₁) n (length xs₃) (length xs₄)) xs₄) (λ e₄.
         fsplit ! $ drop ! $ fsplit ! $ drop ! $ fsplit ! $ drop ! $ fsplit ! $ fsplit ! $ move ! (1 ∷ []) $ feqL ! (λ l₃. move ! (1 ∷ []) $ fsplit ! $ fsplit ! $ move ! (1 ∷ []) $ feqL ! (λ l₄.
