@@ -1,0 +1,110 @@
+// Document 01's driver: records from standard input, carried out on a new 240 MHz board, a line each on standard output. It ends with its input, or with `X` at a record that is broken or cut
+// off. Input streams through one buffer, so that its length does not matter, and lines wait in another. To carry a record out is `carry`, its line is `lines`; here they are put together. The loop
+// knows its board whole (`BenchOk`), so that `quick` may be asked first.
+mod stream;
+
+use carry::Answer;
+use carry::carry as carry_out;
+use carry::quick;
+use lines::put_line;
+use stream::Stream;
+use stream::fed;
+use stream::find;
+use stream::passed;
+use text::first;
+ghost use mathlib.Core.Path.{_≡_};
+ghost use lib.ListN.{length};
+
+const RATE: u64 = 240_000_000;
+
+const QUEUE_BYTES: usize = 3125;
+
+const ENTRIES: usize = 256;
+
+// Lines that wait are written out while there is still room for one more.
+const FULL: usize = 65536 - 128;
+
+fn main() {
+    let mut input = [0u8; 65536];
+    let mut out = [0u8; 65536];
+    let mut queue = [0u8; 3125];
+    let mut script = [0u64; 512];
+    let mut icfg = [0u32; 32];
+    let mut icfg1 = [0u32; 32];
+    let mut acts = [0u8; 4352];
+    run(
+        &mut input,
+        &mut out,
+        &mut queue,
+        &mut script,
+        &mut icfg,
+        &mut icfg1,
+        &mut acts,
+    );
+}
+
+// Every record of the input.
+fn run(
+    input: &mut [u8; 65536],
+    out: &mut [u8; 65536],
+    queue: &mut [u8],
+    script: &mut [u64],
+    icfg: &mut [u32],
+    icfg1: &mut [u32],
+    acts: &mut [u8],
+)
+    requires { ⌜ (length (now queue) ≡ 3125) × (length (now script) ≡ 512) × (length (now icfg) ≡ 32) × (length (now icfg1) ≡ 32) × (length (now acts) ≡ 4352) ⌝ }
+{
+    let mut b = board::made(RATE, QUEUE_BYTES, ENTRIES, icfg, icfg1).board;
+    let mut s = stream::start();
+    let mut to: usize = 0;
+    let mut turns = u64::MAX;
+    while 0 < turns {
+        turns = turns - 1;
+        s = fed(input, s);
+        let found = find(input, s);
+        s = passed(s, found);
+        let q = quick(b, found, queue, script, icfg, icfg1, acts);
+        let chip = q.chip;
+        b.chip = chip;
+        if q.done {
+            let answer = q.answer;
+            to = told(out, to, answer);
+            if ends(answer) {
+                turns = 0;
+            }
+        } else {
+            let c = carry_out(b, found, queue, script, icfg, icfg1, acts);
+            let answer = c.answer;
+            b = c.board;
+            to = told(out, to, answer);
+        }
+    }
+    flush(out, to);
+}
+
+fn told(out: &mut [u8; 65536], to: usize, a: Answer) -> usize {
+    let from = flushed(out, to);
+    put_line(out, from, a)
+}
+
+fn flushed(out: &[u8; 65536], to: usize) -> usize {
+    if FULL < to {
+        flush(out, to);
+        return 0;
+    }
+    to
+}
+
+fn flush(out: &[u8; 65536], n: usize) {
+    io::write_all(libc::STDOUT_FILENO, first(out, n));
+}
+
+// Nothing comes after a record that is broken, or after the last.
+fn ends(a: Answer) -> bool {
+    match a {
+        Answer::Broken { at: _ } => true,
+        Answer::Nothing => true,
+        _ => false,
+    }
+}
