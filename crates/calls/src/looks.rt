@@ -1,89 +1,101 @@
-// What the board shows: its LEDs and its state.
-use crate::answers::Boarded;
-use crate::answers::put_flag;
-use crate::answers::put_next;
-use crate::answers::put_refused;
-use audio::Audio;
-use board::Lit;
-use panel::Keys;
-use script::Script;
-use spi::Spi;
+// Lines that leave the board as it is.
+use crate::answers::Answer;
+use crate::answers::LONG_LINE;
+use crate::answers::NO_CALL;
+use crate::answers::NO_LINE;
+use crate::answers::NONE;
+use crate::answers::NUMBER;
+use crate::answers::NUMBERS;
+use crate::answers::PAIR;
+use crate::answers::flag;
+use crate::answers::pair;
+use crate::answers::two;
+use crate::asks::Ask;
+use crate::asks::CYCLES_OF;
+use crate::asks::ENABLED;
+use crate::asks::IRQ;
+use crate::asks::LONG;
+use crate::asks::MS;
+use crate::asks::NAMED;
+use crate::asks::NEXT_TICK;
+use crate::asks::NO_NAME;
+use crate::asks::NOTHING;
+use crate::asks::PENDING;
+use crate::asks::ROOM;
+use crate::asks::STATE;
+use board::Chosen;
+use board::Flag;
+use board::Number;
+use irq::Choice;
 use state::Board;
-use state::Clock;
-use text::put;
-use text::put_decimal;
-use text::put_text;
-use uart::Uart;
 
-pub fn put_pending(out: &mut [u8], to: usize, b: Board) -> usize {
-    let any = board::any_pending(b);
-    put_flag(out, to, any.refused as u64, any.is)
-}
-
-pub fn put_led(out: &mut [u8], to: usize, b: Board) -> Boarded {
-    let taken = board::led_take(b);
-    let after = taken.board;
-    Boarded {
-        out: put_lit(out, to, taken),
-        board: after,
+pub fn looked<'a>(b: Board, ask: Ask, icfg: &'a [u32; 32], icfg1: &'a [u32; 32]) -> Answer {
+    let k = ask.call;
+    match k {
+        STATE => state(b),
+        ROOM | MS | CYCLES_OF => counted(count(b, k, ask.n)),
+        NEXT_TICK => flagged(board::next_tick_due(b)),
+        PENDING => flagged(board::any_pending(b)),
+        IRQ => chosen(board::pending_irq_for(b, ask.a, icfg, icfg1)),
+        ENABLED => flagged(board::irq_enabled(b, ask.a, ask.c, icfg, icfg1)),
+        _ => plain(k, ask.n),
     }
 }
 
-fn put_lit(out: &mut [u8], to: usize, taken: Lit) -> usize {
-    if taken.refused != 0 {
-        return put_refused(out, to, taken.refused as u64);
+fn count(b: Board, call: usize, ms: u64) -> Number {
+    match call {
+        ROOM => board::tick_room(b),
+        MS => board::ms(b),
+        _ => board::cycle_of_ms(b, ms),
     }
-    let lit = taken.lit;
-    let span = put_decimal(out, to, taken.span);
-    put_lights(out, span, lit)
 }
 
-fn put_lights(out: &mut [u8], to: usize, lit: [u64; 41]) -> usize {
-    let mut end = to;
-    let mut id: usize = 0;
-    while id < 41 {
-        end = put_light(out, end, id as u64, lit[id]);
-        id = id + 1;
+fn counted(n: Number) -> Answer {
+    pair(n.refused, NUMBER, n.value, 0)
+}
+
+fn flagged(f: Flag) -> Answer {
+    flag(f.refused, f.is)
+}
+
+fn chosen(c: Chosen) -> Answer {
+    let choice = c.choice;
+    match choice {
+        Choice::Of { irq, prio } => pair(c.refused, PAIR, irq as u64, prio as u64),
+        Choice::None => pair(c.refused, NONE, 0, 0),
     }
-    end
 }
 
-// An LED that was not lit is left out.
-fn put_light(out: &mut [u8], to: usize, id: u64, lit: u64) -> usize {
-    if lit == 0 {
-        return to;
+// What asks nothing of the board.
+fn plain(call: usize, n: u64) -> Answer {
+    match call {
+        NAMED => two(NUMBER, n, 0),
+        NO_NAME => two(NONE, 0, 0),
+        LONG => two(LONG_LINE, 0, 0),
+        NOTHING => two(NO_LINE, 0, 0),
+        _ => two(NO_CALL, 0, 0),
     }
-    let name = put_next(out, to, id);
-    let colon = put(out, name, b':');
-    put_decimal(out, colon, lit)
 }
 
-pub fn put_state(out: &mut [u8], to: usize, b: Board) -> usize {
-    let clock = put_clock(out, to, b.chip.clock);
-    let counts = put_counts(out, clock, b.chip.audio, b.chip.uart, b.chip.script);
-    put_wire(out, counts, b.chip.spi, b.chip.keys)
+fn state(b: Board) -> Answer {
+    let c = b.chip;
+    Answer {
+        form: NUMBERS,
+        numbers: [
+            c.clock.cycles,
+            c.clock.next_due,
+            c.clock.skipped,
+            c.audio.halves,
+            wide(c.uart.count),
+            c.uart.dropped,
+            wide(c.script.count),
+            c.spi.spi1_wire,
+            c.spi.spi1_done_at,
+            c.keys.vel,
+        ],
+    }
 }
 
-fn put_clock(out: &mut [u8], to: usize, clock: Clock) -> usize {
-    let cycles = put_named(out, to, b"clock ", clock.cycles);
-    let due = put_named(out, cycles, b" due ", clock.next_due);
-    put_named(out, due, b" skipped ", clock.skipped)
-}
-
-fn put_counts(out: &mut [u8], to: usize, audio: Audio, uart: Uart, script: Script) -> usize {
-    let halves = put_named(out, to, b" halves ", audio.halves);
-    let queued = put_named(out, halves, b" queued ", uart.count as u64);
-    let dropped = put_named(out, queued, b" dropped ", uart.dropped);
-    put_named(out, dropped, b" script ", script.count as u64)
-}
-
-fn put_wire(out: &mut [u8], to: usize, spi: Spi, keys: Keys) -> usize {
-    let wire = put_named(out, to, b" wire ", spi.spi1_wire);
-    let done = put_named(out, wire, b" done ", spi.spi1_done_at);
-    put_named(out, done, b" vel ", keys.vel)
-}
-
-fn put_named(out: &mut [u8], to: usize, name: &[u8], n: u64) -> usize {
-    let after = put_text(out, to, name);
-    put_decimal(out, after, n)
+fn wide(n: u32) -> u64 {
+    n as u64
 }

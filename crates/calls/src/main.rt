@@ -30,219 +30,79 @@
 // Actions are `key ID DOWN`, `enc ENC CLICKS`, `adc CH VALUE`, `midi B`, `vel VEL` and `pressure ID VEL`. Addresses and values are hex, other numbers
 // decimal. A call that is refused answers `E` and the refusal's number, where its result is not that number itself. Empty lines and lines that
 // begin with `#` answer nothing. A line of more than 4,096 bytes is answered `? = ?`.
-mod actions;
 mod answers;
-mod asked;
+mod asks;
+mod banks;
 mod boards;
-mod call;
-mod fields;
+mod deeds;
+mod lines;
 mod looks;
 mod names_of;
 mod ports;
-mod registers;
 mod running;
-mod settings;
-mod wires;
+mod words_in;
+mod written;
 
-use call::Said;
+use asks::asked;
+use boards::on_board;
+use lines::next;
 use p33::P33;
 use ports::Ports;
-use text::first;
-use text::put;
-use text::put_text;
+use ports::on_port;
+use written::flush;
+use written::put_line;
 
-// All that goes on from line to line, the length of the line so far, and whether the input has ended.
-struct Went {
-    said: Said,
-    line: usize,
-    over: bool,
-}
+const RATE: u64 = 240_000_000;
 
 fn main() {
-    let mut input = [0u8; 65536];
-    let mut line = [0u8; 4097];
-    let mut out = [0u8; 65536];
+    let mut input = [0u8; lines::BUFFER];
+    let mut line = [0u8; lines::LINE];
+    let mut out = [0u8; lines::BUFFER];
     let mut regs = [0u8; 2048];
+    let mut aside = [0u8; 2048];
     let mut queue = [0u8; 3125];
     let mut script = [0u64; 512];
     let mut icfg = [0u32; 32];
     let mut icfg1 = [0u32; 32];
-    run(
-        &mut input,
-        &mut line,
-        &mut out,
-        &mut regs,
-        &mut queue,
-        &mut script,
+    let mut lights = [0u64; 41];
+    let made = board::made(
+        RATE,
+        deeds::QUEUE_BYTES,
+        deeds::ENTRIES,
         &mut icfg,
         &mut icfg1,
     );
-}
-
-// Every line of standard input.
-fn run(
-    input: &mut [u8],
-    line: &mut [u8],
-    out: &mut [u8],
-    regs: &mut [u8],
-    queue: &mut [u8],
-    script: &mut [u64],
-    icfg: &mut [u32],
-    icfg1: &mut [u32],
-) {
-    let mut went = start(regs, icfg, icfg1);
+    let mut b = made.board;
+    let port = P33::new(&mut regs).port;
+    let mut ports = Ports {
+        port: port,
+        kept: port,
+    };
+    let mut reader = lines::new();
+    let mut to: usize = 0;
     let mut turns = u64::MAX;
     while 0 < turns {
         turns = turns - 1;
-        went = turn(input, line, out, regs, queue, script, icfg, icfg1, went);
-        if went.over {
+        reader = next(&mut input, &mut line, reader);
+        let ask = asked(&line, reader.len);
+        let c = on_board(
+            b,
+            ask,
+            &mut queue,
+            &mut script,
+            &mut icfg,
+            &mut icfg1,
+            &mut lights,
+        );
+        b = c.board;
+        let answer = c.answer;
+        let p = on_port(ports, ask, answer, &mut regs, &mut aside);
+        ports = p.ports;
+        let said = p.answer;
+        to = put_line(&mut out, to, &line, reader.len, said, &lights);
+        if reader.over {
             turns = 0;
         }
     }
-    let said = went.said;
-    let last = ended(line, went.line, out, regs, queue, script, icfg, icfg1, said);
-    flush(out, last.out);
-}
-
-// One read of it; none is the end.
-fn turn(
-    input: &mut [u8],
-    line: &mut [u8],
-    out: &mut [u8],
-    regs: &mut [u8],
-    queue: &mut [u8],
-    script: &mut [u64],
-    icfg: &mut [u32],
-    icfg1: &mut [u32],
-    mut went: Went,
-) -> Went {
-    let got = io::read_full(libc::STDIN_FILENO, input);
-    if got == 0 {
-        went.over = true;
-        return went;
-    }
-    chunk(
-        input,
-        got,
-        line,
-        out,
-        regs,
-        queue,
-        script,
-        icfg,
-        icfg1,
-        went,
-    )
-}
-
-fn start(regs: &mut [u8], icfg: &mut [u32], icfg1: &mut [u32]) -> Went {
-    let port = P33::new(regs).port;
-    let board = board::made(RATE, boards::QUEUE_BYTES, boards::ENTRIES, icfg, icfg1).board;
-    let ports = Ports {
-        port: port,
-        kept: port,
-        kept_regs: [0u8; 2048],
-    };
-    let said = Said {
-        board: board,
-        ports: ports,
-        out: 0,
-    };
-    Went {
-        said: said,
-        line: 0,
-        over: false,
-    }
-}
-
-const RATE: u64 = 240_000_000;
-
-// The bytes of one read: a line's end answers it, any other byte joins the line. A full line is too long, and stays so.
-fn chunk(
-    input: &[u8],
-    got: usize,
-    line: &mut [u8],
-    out: &mut [u8],
-    regs: &mut [u8],
-    queue: &mut [u8],
-    script: &mut [u64],
-    icfg: &mut [u32],
-    icfg1: &mut [u32],
-    went: Went,
-) -> Went {
-    let bytes = first(input, got);
-    let mut n = went.line;
-    let mut said = went.said;
-    let mut i: usize = 0;
-    while i < bytes.len() {
-        let b = bytes[i];
-        i = i + 1;
-        if b == b'\n' {
-            said = ended(line, n, out, regs, queue, script, icfg, icfg1, said);
-            n = 0;
-        } else {
-            n = put(line, n, b);
-        }
-    }
-    Went {
-        said: said,
-        line: n,
-        over: false,
-    }
-}
-
-// The line is answered; what waits is written out before there could be no room for the next answer.
-fn ended(
-    line: &[u8],
-    n: usize,
-    out: &mut [u8],
-    regs: &mut [u8],
-    queue: &mut [u8],
-    script: &mut [u64],
-    icfg: &mut [u32],
-    icfg1: &mut [u32],
-    mut said: Said,
-) -> Said {
-    said.out = flushed(out, said.out);
-    if n < line.len() {
-        return answered(first(line, n), out, regs, queue, script, icfg, icfg1, said);
-    }
-    said.out = put_text(out, said.out, b"? = ?\n");
-    said
-}
-
-fn flushed(out: &[u8], to: usize) -> usize {
-    if 57344 < to {
-        flush(out, to);
-        return 0;
-    }
-    to
-}
-
-fn flush(out: &[u8], n: usize) {
-    io::write_all(libc::STDOUT_FILENO, first(out, n));
-}
-
-fn answered(
-    line: &[u8],
-    out: &mut [u8],
-    regs: &mut [u8],
-    queue: &mut [u8],
-    script: &mut [u64],
-    icfg: &mut [u32],
-    icfg1: &mut [u32],
-    mut said: Said,
-) -> Said {
-    if text::is_passed_over(line) {
-        return said;
-    }
-    said.out = put_line(out, said.out, line);
-    let mut after = call::put_answer(out, line, regs, queue, script, icfg, icfg1, said);
-    after.out = put(out, after.out, b'\n');
-    after
-}
-
-fn put_line(out: &mut [u8], to: usize, line: &[u8]) -> usize {
-    let told = put_text(out, to, line);
-    put_text(out, told, b" = ")
+    flush(&out, to);
 }

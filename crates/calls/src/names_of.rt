@@ -1,27 +1,37 @@
 // Names as calls: a key's or an encoder's id.
+use crate::asks::Ask;
+use crate::asks::NAMED;
+use crate::asks::NO_NAME;
+use crate::asks::UNKNOWN;
+use crate::asks::alone;
+use crate::words_in::Words;
 use names::Id;
-use text::Span;
 use text::Unhexed;
 use text::first;
-use text::put_decimal;
-use text::put_text;
 use text::unhex;
 
 // A line has room for no more than 2,045 bytes in hex.
-pub fn put_named(out: &mut [u8], to: usize, line: &[u8], w: Span, key: bool) -> usize {
+pub fn id_in(line: &[u8], w: Words, key: bool) -> Ask {
     let mut name = [0u8; 2048];
-    let Unhexed::Bytes(n) = unhex(line, w, &mut name) else {
-        return put_text(out, to, b"?");
-    };
-    if key {
-        return put_id(out, to, names::key_id(first(&name, n)));
+    if w.one.from != w.one.to {
+        return alone(UNKNOWN, 0);
     }
-    put_id(out, to, names::enc_id(first(&name, n)))
+    let Unhexed::Bytes(n) = unhex(line, w.verb, &mut name) else {
+        return alone(UNKNOWN, 0);
+    };
+    asked_of(id_of(first(&name, n), key))
 }
 
-fn put_id(out: &mut [u8], to: usize, id: Id) -> usize {
+fn id_of(name: &[u8], key: bool) -> Id {
+    if key {
+        return names::key_id(name);
+    }
+    names::enc_id(name)
+}
+
+fn asked_of(id: Id) -> Ask {
     match id {
-        Id::Of(k) => put_decimal(out, to, k as u64),
-        Id::None => put_text(out, to, b"none"),
+        Id::Of(k) => alone(NAMED, k as u64),
+        Id::None => alone(NO_NAME, 0),
     }
 }

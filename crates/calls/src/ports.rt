@@ -1,197 +1,174 @@
 // The port's calls: the port and its register memory, lent, and one that was kept aside with its registers. Writes and resets go through the record that is
 // lent by `&mut`, so that what is compared with the original is that form.
-use crate::answers::put_flag;
-use crate::answers::put_refused;
-use crate::call::Words;
-use crate::fields::Flag;
-use crate::fields::Large;
-use crate::fields::Middle;
-use crate::fields::Small;
-use crate::fields::byte_in;
-use crate::fields::flag_in;
-use crate::fields::half_in;
-use crate::fields::hex_word;
+use crate::answers::Answer;
+use crate::answers::BYTE;
+use crate::answers::HEX;
+use crate::answers::NONE;
+use crate::answers::RESET;
+use crate::answers::SIX;
+use crate::answers::SUM;
+use crate::answers::WDT;
+use crate::answers::flag;
+use crate::answers::number;
+use crate::answers::pair;
+use crate::answers::two;
+use crate::asks::Ask;
+use crate::asks::PORT_EVENT;
+use crate::asks::PORT_KEEP;
+use crate::asks::PORT_MS;
+use crate::asks::PORT_NEW;
+use crate::asks::PORT_READ;
+use crate::asks::PORT_REG;
+use crate::asks::PORT_RESET;
+use crate::asks::PORT_SAME;
+use crate::asks::PORT_SNAP;
+use crate::asks::PORT_WRITE;
 use p33::Compared;
 use p33::Done;
 use p33::Event;
 use p33::P33;
 use p33::Snap;
-use text::Span;
-use text::is;
-use text::put;
-use text::put_decimal;
-use text::put_hex;
-use text::put_text;
+use std::num::wrapping_add_u64;
 
 pub struct Ports {
     pub port: P33,
     pub kept: P33,
-    pub kept_regs: [u8; 2048],
 }
 
-// The answers that wait, and the ports.
 pub struct Ported {
-    pub out: usize,
     pub ports: Ports,
+    pub answer: Answer,
 }
 
-fn with_port(out: usize, mut ports: Ports, port: P33) -> Ported {
-    ports.port = port;
-    Ported {
-        out: out,
-        ports: ports,
-    }
-}
-
-fn unknown(out: &mut [u8], to: usize, ports: Ports) -> Ported {
-    Ported {
-        out: put_text(out, to, b"?"),
-        ports: ports,
-    }
-}
-
-pub fn put_port(
-    out: &mut [u8],
-    to: usize,
-    line: &[u8],
-    w: Words,
-    regs: &mut [u8],
-    ports: Ports,
+// The ports after a line, and its answer: the one given, where the line asks nothing of the port.
+pub fn on_port(
+    p: Ports,
+    ask: Ask,
+    a: Answer,
+    regs: &mut [u8; 2048],
+    aside: &mut [u8; 2048],
 ) -> Ported {
-    let n = w.count;
-    let verb = w.one;
-    let one = w.two;
-    let two = w.three;
-    if n == 4 {
-        return put_of_two(out, to, line, verb, one, two, regs, ports);
+    let k = ask.call;
+    match k {
+        PORT_WRITE | PORT_NEW | PORT_RESET => done(p, did(p.port, ask, regs)),
+        PORT_EVENT => event(p),
+        PORT_KEEP => keep(p, regs, aside),
+        PORT_READ..=PORT_MS => Ported {
+            ports: p,
+            answer: looked(p, ask, regs, aside),
+        },
+        _ => Ported {
+            ports: p,
+            answer: a,
+        },
     }
-    if n == 3 {
-        return put_of_one(out, to, line, verb, one, regs, ports);
-    }
-    if n == 2 {
-        return put_plain(out, to, line, verb, regs, ports);
-    }
-    unknown(out, to, ports)
 }
 
-// ---- calls of no number
+fn did(port: P33, ask: Ask, regs: &mut [u8; 2048]) -> Done {
+    let k = ask.call;
+    match k {
+        PORT_WRITE => p33::write_through(port, regs, ask.a, ask.v),
+        PORT_RESET => p33::chip_reset_through(port, regs, ask.b),
+        _ => P33::new(regs),
+    }
+}
 
-fn put_plain(
-    out: &mut [u8],
-    to: usize,
-    line: &[u8],
-    verb: Span,
-    regs: &mut [u8],
-    ports: Ports,
-) -> Ported {
-    let port = ports.port;
-    if is(line, verb, b"new") {
-        return put_done(out, to, P33::new(regs), ports);
-    }
-    if is(line, verb, b"keep") {
-        return Ported {
-            out: put_text(out, to, b"0"),
-            ports: kept(port, regs),
-        };
-    }
-    if is(line, verb, b"event") {
-        let taken = port.take_event();
-        let event = taken.event;
-        let after = taken.port;
-        return with_port(put_event(out, to, event), ports, after);
-    }
+fn done(mut p: Ports, d: Done) -> Ported {
+    let port = d.port;
+    p.port = port;
     Ported {
-        out: put_look(out, to, line, verb, regs, ports),
-        ports: ports,
+        ports: p,
+        answer: number(d.refused as u64),
     }
-}
-
-fn put_look(
-    out: &mut [u8],
-    to: usize,
-    line: &[u8],
-    verb: Span,
-    regs: &[u8],
-    ports: Ports,
-) -> usize {
-    let port = ports.port;
-    if is(line, verb, b"same") {
-        let compared = same(ports, regs);
-        return put_flag(out, to, compared.refused as u64, compared.same);
-    }
-    if is(line, verb, b"snap") {
-        return put_snap(out, to, port.snap());
-    }
-    if is(line, verb, b"sum") {
-        return put_hex(out, to, sum(regs), 16);
-    }
-    put_text(out, to, b"?")
-}
-
-fn put_done(out: &mut [u8], to: usize, done: Done, ports: Ports) -> Ported {
-    let port = done.port;
-    with_port(put_decimal(out, to, done.refused as u64), ports, port)
 }
 
 // The port copied aside.
-fn kept(port: P33, regs: &[u8]) -> Ports {
-    let mut aside = [0u8; 2048];
-    copy(regs, &mut aside);
-    Ports {
-        port: port,
-        kept: port,
-        kept_regs: aside,
+fn keep(mut p: Ports, regs: &[u8; 2048], aside: &mut [u8; 2048]) -> Ported {
+    let port = p.port;
+    copy(regs, aside);
+    p.kept = port;
+    Ported {
+        ports: p,
+        answer: number(0),
     }
 }
 
-fn same(ports: Ports, regs: &[u8]) -> Compared {
-    let port = ports.port;
-    let other = ports.kept;
-    let aside = ports.kept_regs;
-    p33::same(port, regs, other, &aside)
-}
-
-fn put_event(out: &mut [u8], to: usize, event: Event) -> usize {
-    match event {
-        Event::None => put_text(out, to, b"none"),
-        Event::Wdt { fed } => {
-            let wdt = put_text(out, to, b"wdt ");
-            put_decimal(out, wdt, base::when(fed, 1) as u64)
-        }
-        Event::Reset => put_text(out, to, b"reset"),
-    }
-}
-
-fn put_snap(out: &mut [u8], to: usize, s: Snap) -> usize {
-    let con = put_number(out, to, s.0 as u64);
-    let dat = put_number(out, con, s.1 as u64);
-    let step = put_number(out, dat, s.2 as u64);
-    let cmd = put_number(out, step, s.3 as u64);
-    let addr = put_number(out, cmd, s.4 as u64);
-    put_decimal(out, addr, s.5)
-}
-
-fn put_number(out: &mut [u8], to: usize, n: u64) -> usize {
-    let end = put_decimal(out, to, n);
-    put(out, end, b' ')
-}
-
-fn copy(from: &[u8], to: &mut [u8]) {
+fn copy(from: &[u8; 2048], to: &mut [u8; 2048]) {
     let mut i: usize = 0;
-    while i < to.len() {
-        let at = i;
+    while i < 2048 {
+        to[i] = from[i];
         i = i + 1;
-        if at < from.len() {
-            to[at] = from[at];
-        }
+    }
+}
+
+fn event(mut p: Ports) -> Ported {
+    let port = p.port;
+    let taken = port.take_event();
+    let event = taken.event;
+    let after = taken.port;
+    p.port = after;
+    Ported {
+        ports: p,
+        answer: event_answer(event),
+    }
+}
+
+fn event_answer(event: Event) -> Answer {
+    match event {
+        Event::None => two(NONE, 0, 0),
+        Event::Wdt { fed } => two(WDT, base::when(fed, 1) as u64, 0),
+        Event::Reset => two(RESET, 0, 0),
+    }
+}
+
+// ---- what leaves the port as it is
+
+fn looked(p: Ports, ask: Ask, regs: &[u8; 2048], aside: &[u8; 2048]) -> Answer {
+    let port = p.port;
+    let kept = p.kept;
+    let k = ask.call;
+    match k {
+        PORT_READ => two(HEX, port.read(ask.a) as u64, 0),
+        PORT_REG => reg(regs, (ask.n % 0x1_0000) as u16, ask.m == 1),
+        PORT_MS => number(P33::wdt_ms(ask.b)),
+        PORT_SAME => same(p33::same(port, regs, kept, aside)),
+        PORT_SNAP => snap(port.snap()),
+        _ => two(SUM, sum(regs), 0),
+    }
+}
+
+fn reg(regs: &[u8; 2048], addr: u16, rtc: bool) -> Answer {
+    let found = P33::reg(regs, addr, rtc);
+    pair(found.refused as u32, BYTE, found.value as u64, 0)
+}
+
+fn same(c: Compared) -> Answer {
+    flag(c.refused as u32, c.same)
+}
+
+fn snap(s: Snap) -> Answer {
+    Answer {
+        form: SIX,
+        numbers: [
+            s.0 as u64,
+            s.1 as u64,
+            s.2 as u64,
+            s.3 as u64,
+            s.4 as u64,
+            s.5,
+            0,
+            0,
+            0,
+            0,
+        ],
     }
 }
 
 // FNV-1a on 64 bits.
-fn sum(regs: &[u8]) -> u64 {
+fn sum(regs: &[u8; 2048]) -> u64 {
     let mut h: u64 = 0xcbf2_9ce4_8422_2325;
     let mut i: usize = 0;
-    while i < regs.len() {
+    while i < 2048 {
         h = times_prime(h ^ wide(regs[i]));
         i = i + 1;
     }
@@ -202,115 +179,9 @@ fn wide(b: u8) -> u64 {
     b as u64
 }
 
-// Times 2^40 + 0x1b3, a bit of it at a time: 0x1b3 is 256 + 128 + 32 + 16 + 2 + 1.
+// Times 2^40 + 0x1b3, a bit of it at a time: 0x1b3 is 3 * (1 + 16 + 128).
 fn times_prime(h: u64) -> u64 {
-    let low = plus(plus(h, h << 1), plus(h << 4, h << 5));
-    plus(plus(low, plus(h << 7, h << 8)), h << 40)
-}
-
-fn plus(a: u64, b: u64) -> u64 {
-    std::num::wrapping_add_u64(a, b)
-}
-
-// ---- calls of one number
-
-fn put_of_one(
-    out: &mut [u8],
-    to: usize,
-    line: &[u8],
-    verb: Span,
-    one: Span,
-    regs: &mut [u8],
-    ports: Ports,
-) -> Ported {
-    let port = ports.port;
-    if is(line, verb, b"read") {
-        return Ported {
-            out: put_read(out, to, hex_word(line, one), port),
-            ports: ports,
-        };
-    }
-    let Small::Is(n) = byte_in(line, one) else {
-        return unknown(out, to, ports);
-    };
-    if is(line, verb, b"reset") {
-        return put_done(out, to, p33::chip_reset_through(port, regs, n), ports);
-    }
-    if is(line, verb, b"ms") {
-        return Ported {
-            out: put_decimal(out, to, P33::wdt_ms(n)),
-            ports: ports,
-        };
-    }
-    unknown(out, to, ports)
-}
-
-fn put_read(out: &mut [u8], to: usize, addr: Large, port: P33) -> usize {
-    let Large::Is(a) = addr else {
-        return put_text(out, to, b"?");
-    };
-    put_hex(out, to, port.read(a) as u64, 8)
-}
-
-// ---- calls of two numbers
-
-fn put_of_two(
-    out: &mut [u8],
-    to: usize,
-    line: &[u8],
-    verb: Span,
-    one: Span,
-    two: Span,
-    regs: &mut [u8],
-    ports: Ports,
-) -> Ported {
-    if is(line, verb, b"write") {
-        return put_write(
-            out,
-            to,
-            hex_word(line, one),
-            hex_word(line, two),
-            regs,
-            ports,
-        );
-    }
-    if is(line, verb, b"reg") {
-        return Ported {
-            out: put_reg(out, to, half_in(line, one), flag_in(line, two), regs),
-            ports: ports,
-        };
-    }
-    unknown(out, to, ports)
-}
-
-fn put_write(
-    out: &mut [u8],
-    to: usize,
-    addr: Large,
-    value: Large,
-    regs: &mut [u8],
-    ports: Ports,
-) -> Ported {
-    let port = ports.port;
-    let Large::Is(a) = addr else {
-        return unknown(out, to, ports);
-    };
-    let Large::Is(v) = value else {
-        return unknown(out, to, ports);
-    };
-    put_done(out, to, p33::write_through(port, regs, a, v), ports)
-}
-
-fn put_reg(out: &mut [u8], to: usize, addr: Middle, rtc: Flag, regs: &[u8]) -> usize {
-    let Middle::Is(a) = addr else {
-        return put_text(out, to, b"?");
-    };
-    let Flag::Is(f) = rtc else {
-        return put_text(out, to, b"?");
-    };
-    let found = P33::reg(regs, a, f);
-    if found.refused == 0 {
-        return put_hex(out, to, found.value as u64, 2);
-    }
-    put_refused(out, to, found.refused as u64)
+    let three = wrapping_add_u64(h, h << 1);
+    let low = wrapping_add_u64(three, wrapping_add_u64(three << 4, three << 7));
+    wrapping_add_u64(low, h << 40)
 }

@@ -1,42 +1,31 @@
-use Prim.Native.Nat.{_-_}
-use mathlib.Core.Path.{_≡_}
-use lib.ListN.{length}
+use Prim.Native.Nat.{_-_, _≤_}
 use borrow.Author.Needs.{needs}
 use Rattle.calls.proofs.ports.copy.Statement.{statement}
 use Rattle.calls.proofs.ports.copy.Tie as tie
 
 abbrev Inv-loop : tie.InvT-loop
-Inv-loop from to₀ i₀ to i = length to ≡ length to₀
+Inv-loop from to₀ i₀ to i = i ≤ 2048
 
 abbrev μ-loop : tie.MeasureT-loop
-μ-loop from to₀ i₀ to i = length to₀ - i
+μ-loop from to₀ i₀ to i = 2048 - i
 
 loop-holds : tie.Need-loop-holds Inv-loop μ-loop
 loop-holds c = search needs
 
+element-copy-out-to : tie.Need-element-copy-out-to Inv-loop μ-loop
+element-copy-out-to c = search needs
+
+element-write-to : tie.Need-element-write-to Inv-loop μ-loop
+element-write-to c = search needs
+
 add-i : tie.Need-add-i Inv-loop μ-loop
 add-i c = search needs
-
-shared-slice-read-to : tie.Need-shared-slice-read-to Inv-loop μ-loop
-shared-slice-read-to c = search needs
-
-slice-write-to : tie.Need-slice-write-to Inv-loop μ-loop
-slice-write-to c = search needs
 
 loop-less : tie.Need-loop-less Inv-loop μ-loop
 loop-less c = search needs
 
 loop-again : tie.Need-loop-again Inv-loop μ-loop
 loop-again c = search needs
-
-loop-less-2 : tie.Need-loop-less-2 Inv-loop μ-loop
-loop-less-2 c = search needs
-
-loop-again-2 : tie.Need-loop-again-2 Inv-loop μ-loop
-loop-again-2 c = search needs
-
-same-length : tie.Need-same-length Inv-loop μ-loop
-same-length c = search needs
 
 returns : tie.Need-returns Inv-loop μ-loop
 returns c = search needs
@@ -48,12 +37,9 @@ copy-spec =
     Inv-loop
     μ-loop
     loop-holds
+    element-copy-out-to
+    element-write-to
     add-i
-    shared-slice-read-to
-    slice-write-to
     loop-less
     loop-again
-    loop-less-2
-    loop-again-2
-    same-length
     returns)

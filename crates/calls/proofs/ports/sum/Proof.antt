@@ -1,20 +1,19 @@
 use Prim.Native.Nat.{_-_, _≤_}
-use lib.ListN.{length}
 use borrow.Author.Needs.{needs}
 use Rattle.calls.proofs.ports.sum.Statement.{statement}
 use Rattle.calls.proofs.ports.sum.Tie as tie
 
 abbrev Inv-loop : tie.InvT-loop
-Inv-loop regs h₀ i₀ h i = i ≤ length regs
+Inv-loop regs h₀ i₀ h i = i ≤ 2048
 
 abbrev μ-loop : tie.MeasureT-loop
-μ-loop regs h₀ i₀ h i = length regs - i
+μ-loop regs h₀ i₀ h i = 2048 - i
 
 loop-holds : tie.Need-loop-holds Inv-loop μ-loop
 loop-holds c = search needs
 
-shared-slice-read-wide : tie.Need-shared-slice-read-wide Inv-loop μ-loop
-shared-slice-read-wide c = search needs
+element-copy-out-wide : tie.Need-element-copy-out-wide Inv-loop μ-loop
+element-copy-out-wide c = search needs
 
 wide-requires : tie.Need-wide-requires Inv-loop μ-loop
 wide-requires c κs = search needs
@@ -41,7 +40,7 @@ sum-spec =
     Inv-loop
     μ-loop
     loop-holds
-    shared-slice-read-wide
+    element-copy-out-wide
     wide-requires
     times-prime-requires
     add-i
