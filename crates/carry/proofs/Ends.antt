@@ -1,6 +1,6 @@
 -- How a record's arm ends, in `carry` and in `quick`: by what it called.
 use mathlib.Core.Path.{_≡_, refl, sym, _∙_, ap, subst}
-use mathlib.Core.Bool.{Bool, true, false, true≢false}
+use mathlib.Core.Bool.{Bool, true, false, true≢false, false≢true}
 use mathlib.Core.List.{List}
 use Prim.Native.Nat.{ℕ, _<_, _^_}
 use Rattle.board.specs.Calls.{writeFirst, writeSecond}
@@ -12,14 +12,16 @@ use Rattle.script.specs.Words.{wordOf}
 use Rattle.state.specs.Whole.{Typed}
 use Rattle.state.specs.With.{withChip}
 use Rattle.state.specs.declared.Board.{Board}
+use Rattle.step.specs.Stages.{nowOf}
 use Rattle.words.specs.Words.{spotIn, storedWords}
 use Rattle.carry.specs.Carry.{Bench, benchOf, BenchOk, pushed, readBy, wroteBy, stepIn, stepped, answerOf, after}
-use Rattle.carry.specs.Quick.{quickPush, quickRead, quickWrite, quickStep}
+use Rattle.carry.specs.Quick.{seenOf, unseenOf, glancePush, glanceRead, glanceStep, notYet, outcomeOf, quickWrite, quickStep}
 use Rattle.carry.specs.declared.Answer.the-variants.{Broken as BrokenAnswer, Nothing}
 use Rattle.carry.specs.declared.Carried.{Carried}
+use Rattle.carry.specs.declared.glances.Sight.{Sight}
 use Rattle.carry.specs.declared.quickly.Outcome.{Outcome}
 use Rattle.carry.proofs.Kept.{push-ok, read-ok, write-ok, step-ok}
-use Rattle.carry.proofs.Right.{push-right, right-read, left-read, right-write, left-write, right-step, left-step}
+use Rattle.carry.proofs.Right.{push-right, right-read, left-read, right-glance, left-glance, right-write, left-write, right-step, left-step}
 
 module _ (h : Bench) where
   abbrev b : Board
@@ -96,14 +98,17 @@ module _ (h : Bench) where
     abbrev with : Outcome → Bench
     with q = withScript q (h .script)
 
-    pub push-quickly : Typed b → (time next : ℕ) (action : Action) (q : Outcome) (s : List ℕ)
-        → (q ≡ quickPush b time) × (s ≡ storedWords (spotIn b (h .script) time) (h .script) time (wordOf action))
-        → Quickly (Timed time action next) q (withScript q s)
+    abbrev Seen : RecordAt → Sight → List ℕ → Type 0
+    Seen found g s = Quickly found (outcomeOf b g) (withScript (outcomeOf b g) s)
+
+    pub push-seen : Typed b → (time next : ℕ) (action : Action) (g : Sight) (s : List ℕ)
+        → (g ≡ glancePush b time) × (s ≡ storedWords (spotIn b (h .script) time) (h .script) time (wordOf action))
+        → Seen (Timed time action next) g s
     unfolding answerOf after
-    push-quickly t time next action q s e =
-        subst (λ (x : Outcome). Quickly found x (withScript x s)) (sym (e .0))
-        (subst (λ (x : List ℕ). Quickly found (quickPush b time) (withScript (quickPush b time) x)) (sym (e .1))
-        (quickly found (quickPush b time) _
+    push-seen t time next action g s e =
+        subst (λ (x : Sight). Seen found x s) (sym (e .0))
+        (subst (Seen found (glancePush b time)) (sym (e .1))
+        (quickly found q _
         (λ d. (r .1, λ i. benchOf (r .0 i) (h .queue) stored (h .first) (h .second) (h .acts)))
         (λ d. absurd (true≢false (sym (r .2) ∙ d)))
         (push-ok h ok t time next action)))
@@ -111,20 +116,46 @@ module _ (h : Bench) where
         found : RecordAt
         found = Timed time action next
 
+        q : Outcome
+        q = outcomeOf b (glancePush b time)
+
         stored : List ℕ
         stored = storedWords (spotIn b (h .script) time) (h .script) time (wordOf action)
 
-        r : (withChip b (quickPush b time .chip) ≡ pushed b (h .script) time .board) × (quickPush b time .answer ≡ pushed b (h .script) time .answer) × (quickPush b time .done ≡ true)
+        r : (withChip b (q .chip) ≡ pushed b (h .script) time .board) × (q .answer ≡ pushed b (h .script) time .answer) × (q .done ≡ true)
         r = push-right b t (h .script) (ok .whole) (ok .script) time
 
-    pub read-quickly : Typed b → (addr next : ℕ) (q : Outcome) → q ≡ quickRead b addr (h .first) (h .second) → Quickly (Ordered (Read addr) next) q (with q)
+    pub read-seen : Typed b → (addr next : ℕ) (g : Sight) → g ≡ glanceRead b addr (h .first) (h .second) → Seen (Ordered (Read addr) next) g (h .script)
     unfolding answerOf after
-    read-quickly t addr next q e =
-        subst (λ (x : Outcome). Quickly (Ordered (Read addr) next) x (with x)) (sym e)
-        (quickly (Ordered (Read addr) next) (quickRead b addr (h .first) (h .second)) _
+    read-seen t addr next g e =
+        subst (λ (x : Sight). Seen (Ordered (Read addr) next) x (h .script)) (sym e)
+        (quickly (Ordered (Read addr) next) (outcomeOf b (glanceRead b addr (h .first) (h .second))) _
         (λ d. let r = right-read b t (ok .whole) (h .first) (h .second) (ok .first) (ok .second) addr d in (r .1, λ i. benchOf (r .0 i) (h .queue) (h .script) (h .first) (h .second) (h .acts)))
         (λ d i. benchOf (withChip b (left-read b addr (h .first) (h .second) i)) (h .queue) (h .script) (h .first) (h .second) (h .acts))
         (read-ok h ok addr next))
+
+    pub step-seen : Typed b → (cycles next : ℕ) (g : Sight) → g ≡ glanceStep b cycles → Seen (Ordered (Step cycles) next) g (h .script)
+    unfolding answerOf after
+    step-seen t cycles next g e =
+        subst (λ (x : Sight). Seen (Ordered (Step cycles) next) x (h .script)) (sym e)
+        (quickly (Ordered (Step cycles) next) (outcomeOf b (glanceStep b cycles)) _
+        (λ d. let r = right-glance b t (h .script) (ok .whole) (ok .script) cycles (h .queue) (h .acts) (ok .queue) (ok .acts) d in (r .1, λ i. benchOf (r .0 i) (r .2 i) (h .script) (h .first) (h .second) (r .3 i)))
+        (λ d i. benchOf (withChip b (left-glance b t (h .script) (ok .whole) (ok .script) cycles (h .queue) (h .acts) (ok .queue) (ok .acts) d i)) (h .queue) (h .script) (h .first) (h .second) (h .acts))
+        (step-ok h ok cycles next))
+
+    pub unseen : (found : RecordAt) (g : Sight) → g ≡ unseenOf b → Seen found g (h .script)
+    unseen found g e = subst (λ (x : Sight). Seen found x (h .script)) (sym e) (λ d. absurd (false≢true d), (λ d. refl, ok))
+
+    pub broken-seen : (at : ℕ) (g : Sight) → g ≡ seenOf b (nowOf (b .chip)) (BrokenAnswer at) → Seen (Broken at) g (h .script)
+    unfolding answerOf after
+    broken-seen at g e = subst (λ (x : Sight). Seen (Broken at) x (h .script)) (sym e) (λ d. (refl, refl), (λ d. absurd (true≢false d), ok))
+
+    pub end-seen : (g : Sight) → g ≡ seenOf b (nowOf (b .chip)) Nothing → Seen End g (h .script)
+    unfolding answerOf after
+    end-seen g e = subst (λ (x : Sight). Seen End x (h .script)) (sym e) (λ d. (refl, refl), (λ d. absurd (true≢false d), ok))
+
+    pub left-quickly : (found : RecordAt) (q : Outcome) → q ≡ notYet (b .chip) → Quickly found q (with q)
+    left-quickly found q e = subst (λ (x : Outcome). Quickly found x (with x)) (sym e) (λ d. absurd (false≢true d), (λ d. refl, ok))
 
     pub write-quickly : Typed b → (addr v next : ℕ) (q : Outcome) → (q ≡ quickWrite b addr v) × (v < 2 ^ 32) → Quickly (Ordered (Write addr v) next) q (with q)
     unfolding answerOf after
@@ -143,13 +174,3 @@ module _ (h : Bench) where
         (λ d. let r = right-step b t (h .script) (ok .whole) (ok .script) cycles (h .queue) (h .acts) (ok .queue) (ok .acts) d in (r .1, λ i. benchOf (r .0 i) (r .2 i) (h .script) (h .first) (h .second) (r .3 i)))
         (λ d i. benchOf (withChip b (left-step b t (h .script) (ok .whole) (ok .script) cycles (h .queue) (h .acts) (ok .queue) (ok .acts) d i)) (h .queue) (h .script) (h .first) (h .second) (h .acts))
         (step-ok h ok cycles next))
-
-    pub broken-quickly : (at : ℕ) (q : Outcome) → q ≡ record { chip = b .chip; answer = BrokenAnswer at; done = true } → Quickly (Broken at) q (with q)
-    unfolding answerOf after
-    broken-quickly at q e =
-        subst (λ (x : Outcome). Quickly (Broken at) x (with x)) (sym e) (λ d. (refl, refl), (λ d. absurd (true≢false d), ok))
-
-    pub end-quickly : (q : Outcome) → q ≡ record { chip = b .chip; answer = Nothing; done = true } → Quickly End q (with q)
-    unfolding answerOf after
-    end-quickly q e =
-        subst (λ (x : Outcome). Quickly End x (with x)) (sym e) (λ d. (refl, refl), (λ d. absurd (true≢false d), ok))

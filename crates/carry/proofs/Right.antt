@@ -38,9 +38,10 @@ use Rattle.uart.specs.Uart.{queueBytes}
 use Rattle.uart.specs.declared.Byte.the-variants.{None as noByte}
 use Rattle.words.specs.Words.{placesIn, shownIn, spotIn}
 use Rattle.carry.specs.Carry.{Agrees, numberOf, pushed, readBy, wroteBy, toldOf, stepIn, stepped}
-use Rattle.carry.specs.Quick.{notYet, toldBy, servedQuick, quickPush, quickRead, beyond, quickWrite, quickStep}
+use Rattle.carry.specs.Quick.{seenOf, unseenOf, glancePush, glanceRead, glanceStep, notYet, toldBy, outcomeOf, beyond, quickWrite, servedQuick, quickStep}
 use Rattle.carry.specs.declared.Answer.the-variants.{Pushed, Read, Wrote, Stepped, Refused}
 use Rattle.carry.specs.declared.Carried.{Carried}
+use Rattle.carry.specs.declared.glances.Sight.{Sight}
 use Rattle.carry.specs.declared.quickly.Outcome.{Outcome}
 use Rattle.carry.proofs.Calls.{push-number, step-left, banks-left, read-left}
 
@@ -60,11 +61,14 @@ module _ (b : Board) (t : Typed b) (ws : List ℕ) (w : Whole b) (a : Agrees b w
   abbrev Right : Outcome → Type 0
   Right q = (withChip b (q .chip) ≡ pushed b ws time .board) × (q .answer ≡ pushed b ws time .answer) × (q .done ≡ true)
 
-  pub push-right : Right (quickPush b time)
-  unfolding quickPush
+  pub push-right : Right (outcomeOf b (glancePush b time))
+  unfolding glancePush
   push-right = go (fullOf (b .chip .script)) refl
     where
-      go : (f : Bool) → fullOf (b .chip .script) ≡ f → Right (cond f (toldBy (b .chip) (Pushed 5)) (toldBy (dueNow (withScript (b .chip) (ringPushed (b .chip .script) time))) (Pushed 0)))
+      more : Sight
+      more = record { clock = nowOf (b .chip); due = 0; ring = ringPushed (b .chip .script) time; answer = Pushed 0; done = true }
+
+      go : (f : Bool) → fullOf (b .chip .script) ≡ f → Right (outcomeOf b (cond f (seenOf b (nowOf (b .chip)) (Pushed 5)) more))
       go true f = rw (spot-full f) (refl, refl, refl)
       go false f = rw (spot-room f) (refl, refl, refl)
 
@@ -75,19 +79,17 @@ module _ (b : Board) (t : Typed b) (w : Whole b) (first second : List ℕ) (f : 
   unfolding readCall readChip
   plain-read e = rw (read-left b t w (length first) (length second) f s addr, e)
 
-  pub right-read : quickRead b addr first second .done ≡ true
-      → (withChip b (quickRead b addr first second .chip) ≡ readBy b addr first second .board) × (quickRead b addr first second .answer ≡ readBy b addr first second .answer)
-  unfolding quickRead
+  abbrev seenRead : Bool → Outcome
+  seenRead p = outcomeOf b (cond p (unseenOf b) (seenOf b (nowOf (b .chip)) (Read addr (readOf (b .chip) first second addr))))
+
+  pub right-read : outcomeOf b (glanceRead b addr first second) .done ≡ true
+      → (withChip b (outcomeOf b (glanceRead b addr first second) .chip) ≡ readBy b addr first second .board)
+      × (outcomeOf b (glanceRead b addr first second) .answer ≡ readBy b addr first second .answer)
+  unfolding glanceRead
   right-read = go (pollsAt (b .chip) addr) refl
     where
-      slow : Outcome
-      slow = notYet (b .chip)
-
-      fast : Outcome
-      fast = toldBy (b .chip) (Read addr (readOf (b .chip) first second addr))
-
-      go : (p : Bool) → pollsAt (b .chip) addr ≡ p → cond p slow fast .done ≡ true
-          → (withChip b (cond p slow fast .chip) ≡ readBy b addr first second .board) × (cond p slow fast .answer ≡ readBy b addr first second .answer)
+      go : (p : Bool) → pollsAt (b .chip) addr ≡ p → seenRead p .done ≡ true
+          → (withChip b (seenRead p .chip) ≡ readBy b addr first second .board) × (seenRead p .answer ≡ readBy b addr first second .answer)
       go true e done = absurd (false≢true done)
       go false e done = (sym (ap (λ (x : Carried). x .board) (plain-read e)), sym (ap (λ (x : Carried). x .answer) (plain-read e)))
 
@@ -103,11 +105,11 @@ module _ (b : Board) (t : Typed b) (w : Whole b) (first second : List ℕ) (f : 
   unfolding writeSecond
   accepted-second v = rw (banks-left b t w (length first) (length second) f s)
 
-pub left-read : (b : Board) (addr : ℕ) (first second : List ℕ) → quickRead b addr first second .chip ≡ b .chip
-unfolding quickRead
+pub left-read : (b : Board) (addr : ℕ) (first second : List ℕ) → outcomeOf b (glanceRead b addr first second) .chip ≡ b .chip
+unfolding glanceRead
 left-read b addr first second = go (pollsAt (b .chip) addr)
   where
-    go : (x : Bool) → cond x (notYet (b .chip)) (toldBy (b .chip) (Read addr (readOf (b .chip) first second addr))) .chip ≡ b .chip
+    go : (x : Bool) → outcomeOf b (cond x (unseenOf b) (seenOf b (nowOf (b .chip)) (Read addr (readOf (b .chip) first second addr)))) .chip ≡ b .chip
     go true = refl
     go false = refl
 
@@ -326,3 +328,26 @@ module _ (b : Board) (t : Typed b) (ws : List ℕ) (w : Whole b) (a : Agrees b w
       go true true due d = absurd (true≢false d)
       go true false true d = refl
       go true false false d = absurd (true≢false d)
+
+  -- at a glance: refused or early
+  abbrev seen : Bool → Bool → Outcome
+  seen none early =
+      outcomeOf b (cond (not none) (seenOf b (nowOf (b .chip)) (Refused number)) (cond early (seenOf b end (Stepped end noHalf noByte 0)) (unseenOf b)))
+
+  pub right-glance : outcomeOf b (glanceStep b cycles) .done ≡ true → RightStep (outcomeOf b (glanceStep b cycles))
+  unfolding glanceStep finishedOf
+  right-glance = go (eqb number 0) (ltb end (b .chip .clock .«next_due»)) refl refl
+    where
+      go : (none early : Bool) → eqb number 0 ≡ none → ltb end (b .chip .clock .«next_due») ≡ early → seen none early .done ≡ true → RightStep (seen none early)
+      go false early e h d = at (seen false early) _ (refused-ran e) (refl, rw e, refl, refl)
+      go true true e h d = at (seen true true) _ (early-ran e h) (refl, refl, refl, refl)
+      go true false e h d = absurd (false≢true d)
+
+  pub left-glance : outcomeOf b (glanceStep b cycles) .done ≡ false → outcomeOf b (glanceStep b cycles) .chip ≡ b .chip
+  unfolding glanceStep
+  left-glance = go (eqb number 0) (ltb end (b .chip .clock .«next_due»))
+    where
+      go : (none early : Bool) → seen none early .done ≡ false → seen none early .chip ≡ b .chip
+      go false early d = absurd (true≢false d)
+      go true true d = absurd (true≢false d)
+      go true false d = refl

@@ -1,9 +1,12 @@
 // One of the driver's records carried out. `carry` does it by the public calls, for any board and any memory, and answers with all that the record's line has to say; lines are written elsewhere.
-// `quick` does the same on the chip alone, without a test of the record, for a driver that knows its board whole (`BenchOk`): a driver asks it first and `carry` for what it leaves, which
-// is what touches panel or banks. The script is held as plain words, two an entry.
+// A driver that knows its board whole (`BenchOk`) need not have it tested for each record: it asks `glance`, which needs no more than the clock and the script's ring, then `quick`, which works on the chip
+// alone, and `carry` for what these leave. The script is held as plain words, two an entry.
+mod glances;
 mod quickly;
 
 use audio::Half;
+pub use glances::Sight;
+pub use glances::glance;
 pub use quickly::Outcome;
 pub use quickly::quick;
 use records::Action;

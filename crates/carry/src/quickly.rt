@@ -1,35 +1,26 @@
-// Records that touch neither panel nor banks, on the chip alone, with no test of what a whole board cannot refuse. What is left to `carry`: a read that skips idle time, a conversion, a write of
-// a bank, a write of the ports that has LED times to charge, a step that takes entries of the script.
+// Records that touch neither panel nor banks nor the script's entries, on the chip alone, with no test of what a whole board cannot refuse: most writes, and a step that takes no entry. Left to
+// `carry`: a read that skips idle time, a conversion, a write of a bank, a write of the ports that has LED times to charge, a step that takes entries.
 use crate::Answer;
+use crate::glances::step_number;
 use audio::Half;
-use base::CLOCK_MAX;
 use panel::Pins;
-use records::Action;
 use records::Order;
 use records::RecordAt;
 use regs::handled;
-use regs::polls;
-use regs::read;
 use regs::write_chip;
-use script::FULL;
-use script::word_of;
 use state::Board;
 use state::Chip;
 use step::serve;
 use uart::Byte;
 ghost use mathlib.Core.Path.{_≡_};
 ghost use mathlib.Core.Bool.{true, false};
-ghost use Prim.Native.Nat.{_≤_, _<_, _^_};
+ghost use Prim.Native.Nat.{_<_, _^_};
 ghost use lib.ListN.{length};
-ghost use Rattle.base.specs.Moments.{clockMax};
-ghost use Rattle.irq.specs.Banks.{bankWords};
-ghost use Rattle.script.specs.Words.{wordOf};
 ghost use Rattle.state.specs.Whole.{Whole};
 ghost use Rattle.state.specs.With.{withChip};
 ghost use Rattle.uart.specs.Uart.{queueBytes};
-ghost use Rattle.words.specs.Words.{spotIn, storedWords};
-ghost use Rattle.carry.specs.Carry.{benchOf, Agrees, BenchOk, numberOf, answerOf, after};
-ghost use Rattle.carry.specs.Quick.{notYet, toldBy, quickPush, quickRead, beyond, quickWrite, quickStep};
+ghost use Rattle.carry.specs.Carry.{benchOf, BenchOk, answerOf, after};
+ghost use Rattle.carry.specs.Quick.{notYet, toldBy, beyond, quickWrite, quickStep};
 
 // Where it is `done`, the chip and the answer; else the chip as it was.
 pub struct Outcome {
@@ -37,12 +28,6 @@ pub struct Outcome {
     pub answer: Answer,
     pub done: bool,
 }
-
-const COUNT: u32 = 6;
-
-const TIME: u32 = 7;
-
-const COUNT_MAX: u64 = 0x4000_0000_0000_0000;
 
 fn not_yet(c: Chip) -> Outcome
     ensures { λ r. ⌜ r ≡ notYet c ⌝ }
@@ -62,36 +47,6 @@ fn told_by(c: Chip, answer: Answer) -> Outcome
         answer: answer,
         done: true,
     }
-}
-
-fn quick_push(b: Board, script: &mut [u64], time: u64, action: Action) -> Outcome
-    requires { ⌜ Whole b × Agrees b (now script) ⌝ }
-    ensures { λ r. ⌜ (r ≡ quickPush b time)
-        × (now (script .exit) ≡ storedWords (spotIn b (now (script .entry)) time) (now (script .entry)) time (wordOf action)) ⌝ }
-{
-    let mut c = b.chip;
-    if c.script.full() {
-        return told_by(c, Answer::Pushed { number: FULL });
-    }
-    let at = 2 * c.script.spot();
-    script[at] = time;
-    script[at + 1] = word_of(action);
-    let more = c.script.pushed(time);
-    c.script = more;
-    c.clock.next_due = 0;
-    told_by(c, Answer::Pushed { number: 0 })
-}
-
-fn quick_read<'a>(b: Board, addr: u32, icfg: &'a [u32], icfg1: &'a [u32]) -> Outcome
-    requires { ⌜ Whole b × (length (now icfg) ≡ bankWords) × (length (now icfg1) ≡ bankWords) ⌝ }
-    ensures { λ r. ⌜ r ≡ quickRead b addr (now (icfg .entry)) (now (icfg1 .entry)) ⌝ }
-{
-    let c = b.chip;
-    if polls(c, addr) {
-        return not_yet(c);
-    }
-    let value = read(c, icfg, icfg1, addr);
-    told_by(c, Answer::Read { addr, value })
 }
 
 // The converter's CON, the banks and what lies between them, the ports' words where LED times are to be charged.
@@ -121,20 +76,6 @@ fn quick_write(b: Board, addr: u32, value: u32) -> Outcome
             handled: handled(addr),
         },
     )
-}
-
-// What a whole board can still refuse of a step, 0 for nothing. The sum is compared so that it cannot wrap.
-fn step_number(dropped: u64, now: u64, cycles: u64) -> u32
-    requires { ⌜ now ≤ clockMax ⌝ }
-    ensures { λ r. ⌜ r ≡ numberOf dropped now cycles ⌝ }
-{
-    if COUNT_MAX <= dropped {
-        return COUNT;
-    }
-    if CLOCK_MAX - now < cycles {
-        return TIME;
-    }
-    0
 }
 
 // The script's front is not due, if there is one.
@@ -183,33 +124,33 @@ fn quick_step(b: Board, cycles: u64, queue: &[u8]) -> Outcome
     )
 }
 
-// `acts` is lent for the contract alone.
+// Of what is lent only the queue is looked at; the rest is there for the contract.
 pub fn quick<'a>(
     b: Board,
     found: RecordAt,
     queue: &[u8],
-    script: &mut [u64],
+    script: &[u64],
     icfg: &'a [u32],
     icfg1: &'a [u32],
     acts: &[u8],
 ) -> Outcome
     requires { ⌜ BenchOk (benchOf b (now queue) (now script) (now icfg) (now icfg1) (now acts)) ⌝ }
-    ensures { λ r. ⌜ (r .done ≡ true → (r .answer ≡ answerOf (benchOf b (now (queue .entry)) (now (script .entry)) (now (icfg .entry)) (now (icfg1 .entry)) (now (acts .entry))) found) × ((benchOf (withChip b (r .chip)) (now (queue .entry)) (now (script .exit)) (now (icfg .entry)) (now (icfg1 .entry)) (now (acts .entry))) ≡ after (benchOf b (now (queue .entry)) (now (script .entry)) (now (icfg .entry)) (now (icfg1 .entry)) (now (acts .entry))) found)) ⌝ }
-    ensures left { λ r. ⌜ (r .done ≡ false → (benchOf (withChip b (r .chip)) (now (queue .entry)) (now (script .exit)) (now (icfg .entry)) (now (icfg1 .entry)) (now (acts .entry))) ≡ (benchOf b (now (queue .entry)) (now (script .entry)) (now (icfg .entry)) (now (icfg1 .entry)) (now (acts .entry)))) ⌝ }
-    ensures kept { λ r. ⌜ BenchOk (benchOf (withChip b (r .chip)) (now (queue .entry)) (now (script .exit)) (now (icfg .entry)) (now (icfg1 .entry)) (now (acts .entry))) ⌝ }
+    ensures { λ r. ⌜ (r .done ≡ true → (r .answer ≡ answerOf (benchOf b (now (queue .entry)) (now (script .entry)) (now (icfg .entry)) (now (icfg1 .entry)) (now (acts .entry))) found) × ((benchOf (withChip b (r .chip)) (now (queue .entry)) (now (script .entry)) (now (icfg .entry)) (now (icfg1 .entry)) (now (acts .entry))) ≡ after (benchOf b (now (queue .entry)) (now (script .entry)) (now (icfg .entry)) (now (icfg1 .entry)) (now (acts .entry))) found)) ⌝ }
+    ensures left { λ r. ⌜ (r .done ≡ false → (benchOf (withChip b (r .chip)) (now (queue .entry)) (now (script .entry)) (now (icfg .entry)) (now (icfg1 .entry)) (now (acts .entry))) ≡ (benchOf b (now (queue .entry)) (now (script .entry)) (now (icfg .entry)) (now (icfg1 .entry)) (now (acts .entry)))) ⌝ }
+    ensures kept { λ r. ⌜ BenchOk (benchOf (withChip b (r .chip)) (now (queue .entry)) (now (script .entry)) (now (icfg .entry)) (now (icfg1 .entry)) (now (acts .entry))) ⌝ }
 {
     match found {
         RecordAt::Timed {
-            time,
-            action,
+            time: _,
+            action: _,
             next: _,
-        } => quick_push(b, script, time, action),
+        } => not_yet(b.chip),
         RecordAt::Order { order, next: _ } => match order {
-            Order::Read { addr } => quick_read(b, addr, icfg, icfg1),
+            Order::Read { addr: _ } => not_yet(b.chip),
             Order::Write { addr, value } => quick_write(b, addr, value),
             Order::Step { cycles } => quick_step(b, cycles, queue),
         },
-        RecordAt::Broken { at } => told_by(b.chip, Answer::Broken { at }),
-        RecordAt::End => told_by(b.chip, Answer::Nothing),
+        RecordAt::Broken { at: _ } => not_yet(b.chip),
+        RecordAt::End => not_yet(b.chip),
     }
 }

@@ -1,10 +1,11 @@
 // Document 01's driver: records from standard input, carried out on a new 240 MHz board, a line each on standard output. It ends with its input, or with `X` at a record that is broken or cut
 // off. Input streams through one buffer, so that its length does not matter, and lines wait in another. To carry a record out is `carry`, its line is `lines`; here they are put together. The loop
-// knows its board whole (`BenchOk`), so that `quick` may be asked first.
+// knows its board whole (`BenchOk`), so that `glance` and `quick` may be asked first.
 mod stream;
 
 use carry::Answer;
 use carry::carry as carry_out;
+use carry::glance;
 use carry::quick;
 use lines::put_line;
 use stream::Stream;
@@ -64,20 +65,32 @@ fn run(
         s = fed(input, s);
         let found = find(input, s);
         s = passed(s, found);
-        let q = quick(b, found, queue, script, icfg, icfg1, acts);
-        let chip = q.chip;
-        b.chip = chip;
-        if q.done {
-            let answer = q.answer;
+        let g = glance(b, found, queue, script, icfg, icfg1, acts);
+        let ring = g.ring;
+        b.chip.clock.cycles = g.clock;
+        b.chip.clock.next_due = g.due;
+        b.chip.script.at = ring.at;
+        b.chip.script.place = ring.place;
+        b.chip.script.count = ring.count;
+        if g.done {
+            let answer = g.answer;
             to = told(out, to, answer);
             if ends(answer) {
                 turns = 0;
             }
         } else {
-            let c = carry_out(b, found, queue, script, icfg, icfg1, acts);
-            let answer = c.answer;
-            b = c.board;
-            to = told(out, to, answer);
+            let q = quick(b, found, queue, script, icfg, icfg1, acts);
+            let chip = q.chip;
+            b.chip = chip;
+            if q.done {
+                let answer = q.answer;
+                to = told(out, to, answer);
+            } else {
+                let c = carry_out(b, found, queue, script, icfg, icfg1, acts);
+                let answer = c.answer;
+                b = c.board;
+                to = told(out, to, answer);
+            }
         }
     }
     flush(out, to);

@@ -1,4 +1,4 @@
-// The driver's lines, one an answer, put behind the bytes that wait in a buffer. A byte for which there is no room is left out, as everywhere in `text`; no line is longer than 119 bytes (`line-short`).
+// The driver's lines, one an answer, put behind the bytes that wait in a buffer. A byte for which there is no room is left out, as everywhere in `text`; no line is longer than 116 bytes (`line-short` in proofs/Short.antt).
 use audio::Half;
 use carry::Answer;
 use regs::Value;

@@ -41,6 +41,50 @@ use Rattle.board.proofs.tick as board-tick
 use Rattle.board.proofs.tick_room as board-tick-room
 use Rattle.board.proofs.write as board-write
 use Rattle.board.proofs.«set_in_isr» as board-set-in-isr
+use Rattle.capi.proofs.calls.fm1_advance as capi-fm1-advance
+use Rattle.capi.proofs.calls.fm1_any_pending as capi-fm1-any-pending
+use Rattle.capi.proofs.calls.fm1_apply as capi-fm1-apply
+use Rattle.capi.proofs.calls.fm1_chip_reset as capi-fm1-chip-reset
+use Rattle.capi.proofs.calls.fm1_cycle_of_ms as capi-fm1-cycle-of-ms
+use Rattle.capi.proofs.calls.fm1_enc_id as capi-fm1-enc-id
+use Rattle.capi.proofs.calls.fm1_idle as capi-fm1-idle
+use Rattle.capi.proofs.calls.fm1_irq_enabled as capi-fm1-irq-enabled
+use Rattle.capi.proofs.calls.fm1_key_id as capi-fm1-key-id
+use Rattle.capi.proofs.calls.fm1_led_take as capi-fm1-led-take
+use Rattle.capi.proofs.calls.fm1_midi_dropped as capi-fm1-midi-dropped
+use Rattle.capi.proofs.calls.fm1_midi_queued as capi-fm1-midi-queued
+use Rattle.capi.proofs.calls.fm1_ms as capi-fm1-ms
+use Rattle.capi.proofs.calls.fm1_new as capi-fm1-new
+use Rattle.capi.proofs.calls.fm1_next_tick_due as capi-fm1-next-tick-due
+use Rattle.capi.proofs.calls.fm1_pending_irq as capi-fm1-pending-irq
+use Rattle.capi.proofs.calls.fm1_pending_irq_for as capi-fm1-pending-irq-for
+use Rattle.capi.proofs.calls.fm1_push as capi-fm1-push
+use Rattle.capi.proofs.calls.fm1_read as capi-fm1-read
+use Rattle.capi.proofs.calls.fm1_set_cycle_ticks as capi-fm1-set-cycle-ticks
+use Rattle.capi.proofs.calls.fm1_set_exc_pending as capi-fm1-set-exc-pending
+use Rattle.capi.proofs.calls.fm1_set_room_cap as capi-fm1-set-room-cap
+use Rattle.capi.proofs.calls.fm1_set_skip_idle as capi-fm1-set-skip-idle
+use Rattle.capi.proofs.calls.fm1_set_spi2_pending as capi-fm1-set-spi2-pending
+use Rattle.capi.proofs.calls.fm1_set_usb as capi-fm1-set-usb
+use Rattle.capi.proofs.calls.fm1_set_wdt as capi-fm1-set-wdt
+use Rattle.capi.proofs.calls.fm1_spi1_irq_off as capi-fm1-spi1-irq-off
+use Rattle.capi.proofs.calls.fm1_spi1_start as capi-fm1-spi1-start
+use Rattle.capi.proofs.calls.fm1_spi2_start as capi-fm1-spi2-start
+use Rattle.capi.proofs.calls.fm1_sr_shift_byte as capi-fm1-sr-shift-byte
+use Rattle.capi.proofs.calls.fm1_tick as capi-fm1-tick
+use Rattle.capi.proofs.calls.fm1_tick_room as capi-fm1-tick-room
+use Rattle.capi.proofs.calls.fm1_write as capi-fm1-write
+use Rattle.capi.proofs.calls.«fm1_set_in_isr» as capi-fm1-set-in-isr
+use Rattle.capi.proofs.marks.fm1_marks as capi-fm1-marks
+use Rattle.capi.proofs.ports.fm1_port_chip_reset as capi-fm1-port-chip-reset
+use Rattle.capi.proofs.ports.fm1_port_new as capi-fm1-port-new
+use Rattle.capi.proofs.ports.fm1_port_read as capi-fm1-port-read
+use Rattle.capi.proofs.ports.fm1_port_reg as capi-fm1-port-reg
+use Rattle.capi.proofs.ports.fm1_port_same as capi-fm1-port-same
+use Rattle.capi.proofs.ports.fm1_port_same_snap as capi-fm1-port-same-snap
+use Rattle.capi.proofs.ports.fm1_port_take_event as capi-fm1-port-take-event
+use Rattle.capi.proofs.ports.fm1_port_write as capi-fm1-port-write
+use Rattle.capi.proofs.ports.fm1_wdt_ms as capi-fm1-wdt-ms
 use Rattle.entries.proofs.advance as entries-advance
 use Rattle.entries.proofs.new as entries-new
 use Rattle.entries.proofs.push as entries-push
@@ -302,3 +346,141 @@ module _ {M : Type 1} (𝓤 : URA M) (H : Heap 𝓤) (A : Atoms 𝓤) (mem : Mem
 
   pub p33-chip-reset-through-once : Once 𝓤 p33-chip-reset-through.ended (p33-chip-reset-through.clauses 𝓤 H A mem run) (λ κs e. now (e .1 .0))
   p33-chip-reset-through-once κs args g r r′ e e′ = once 𝓤 r r′ _ (now (e .1 .0)) (now (e′ .1 .0)) _ _ _ (told 𝓤 r _ (now (e .1 .0)) _) (told 𝓤 r′ _ (now (e′ .1 .0)) _)
+
+  -- ---- the same calls across C
+
+  pub capi-fm1-new-once : Once 𝓤 capi-fm1-new.ended (capi-fm1-new.clauses 𝓤 H A mem run) (λ κs e. two (now (e .1 .1 .1 .0)) (now (e .1 .1 .1 .1 .0)))
+  capi-fm1-new-once κs args g r r′ e e′ =
+      once 𝓤 r r′ _ (two (now (e .1 .1 .1 .0)) (now (e .1 .1 .1 .1 .0))) (two (now (e′ .1 .1 .1 .0)) (now (e′ .1 .1 .1 .1 .0))) _ _ _ (beside-two 𝓤 r _ (now (e .1 .1 .1 .0)) _ (now (e .1 .1 .1 .1 .0)) _) (beside-two 𝓤 r′ _ (now (e′ .1 .1 .1 .0)) _ (now (e′ .1 .1 .1 .1 .0)) _)
+
+  pub capi-fm1-advance-once : Once 𝓤 capi-fm1-advance.ended (capi-fm1-advance.clauses 𝓤 H A mem run) (λ κs e. two (now (e .1 .1 .0)) (now (e .1 .1 .1 .1 .0)))
+  capi-fm1-advance-once κs args g r r′ e e′ =
+      once 𝓤 r r′ _ (two (now (e .1 .1 .0)) (now (e .1 .1 .1 .1 .0))) (two (now (e′ .1 .1 .0)) (now (e′ .1 .1 .1 .1 .0))) _ _ _ (told-two 𝓤 r _ (now (e .1 .1 .0)) _ (now (e .1 .1 .1 .1 .0)) _) (told-two 𝓤 r′ _ (now (e′ .1 .1 .0)) _ (now (e′ .1 .1 .1 .1 .0)) _)
+
+  pub capi-fm1-push-once : Once 𝓤 capi-fm1-push.ended (capi-fm1-push.clauses 𝓤 H A mem run) (λ κs e. now (e .1 .0))
+  capi-fm1-push-once κs args g r r′ e e′ = once 𝓤 r r′ _ (now (e .1 .0)) (now (e′ .1 .0)) _ _ _ (told 𝓤 r _ (now (e .1 .0)) _) (told 𝓤 r′ _ (now (e′ .1 .0)) _)
+
+  pub capi-fm1-apply-once : Once 𝓤 capi-fm1-apply.ended (capi-fm1-apply.clauses 𝓤 H A mem run) (λ κs e. now (e .1 .1 .0))
+  capi-fm1-apply-once κs args g r r′ e e′ = once 𝓤 r r′ _ (now (e .1 .1 .0)) (now (e′ .1 .1 .0)) _ _ _ (beside 𝓤 r _ (now (e .1 .1 .0)) _) (beside 𝓤 r′ _ (now (e′ .1 .1 .0)) _)
+
+  pub capi-fm1-chip-reset-once : Once 𝓤 capi-fm1-chip-reset.ended (capi-fm1-chip-reset.clauses 𝓤 H A mem run) (λ κs e. two (now (e .1 .0)) (now (e .1 .1 .0)))
+  capi-fm1-chip-reset-once κs args g r r′ e e′ =
+      once 𝓤 r r′ _ (two (now (e .1 .0)) (now (e .1 .1 .0))) (two (now (e′ .1 .0)) (now (e′ .1 .1 .0))) _ _ _ (beside-two 𝓤 r _ (now (e .1 .0)) _ (now (e .1 .1 .0)) _) (beside-two 𝓤 r′ _ (now (e′ .1 .0)) _ (now (e′ .1 .1 .0)) _)
+
+  pub capi-fm1-read-once : Once 𝓤 capi-fm1-read.ended (capi-fm1-read.clauses 𝓤 H A mem run) (nothingLent capi-fm1-read.ended)
+  capi-fm1-read-once κs args g r r′ e e′ = once 𝓤 r r′ _ tt tt tt _ _ (alone 𝓤 r _) (alone 𝓤 r′ _)
+
+  pub capi-fm1-write-once : Once 𝓤 capi-fm1-write.ended (capi-fm1-write.clauses 𝓤 H A mem run) (λ κs e. two (now (e .1 .1 .1 .0)) (now (e .1 .1 .1 .1 .0)))
+  capi-fm1-write-once κs args g r r′ e e′ =
+      once 𝓤 r r′ _ (two (now (e .1 .1 .1 .0)) (now (e .1 .1 .1 .1 .0))) (two (now (e′ .1 .1 .1 .0)) (now (e′ .1 .1 .1 .1 .0))) _ _ _ (beside-two 𝓤 r _ (now (e .1 .1 .1 .0)) _ (now (e .1 .1 .1 .1 .0)) _) (beside-two 𝓤 r′ _ (now (e′ .1 .1 .1 .0)) _ (now (e′ .1 .1 .1 .1 .0)) _)
+
+  pub capi-fm1-tick-once : Once 𝓤 capi-fm1-tick.ended (capi-fm1-tick.clauses 𝓤 H A mem run) (nothingLent capi-fm1-tick.ended)
+  capi-fm1-tick-once κs args g r r′ e e′ = once 𝓤 r r′ _ tt tt tt _ _ (alone 𝓤 r _) (alone 𝓤 r′ _)
+
+  pub capi-fm1-tick-room-once : Once 𝓤 capi-fm1-tick-room.ended (capi-fm1-tick-room.clauses 𝓤 H A mem run) (nothingLent capi-fm1-tick-room.ended)
+  capi-fm1-tick-room-once κs args g r r′ e e′ = once 𝓤 r r′ _ tt tt tt _ _ (alone 𝓤 r _) (alone 𝓤 r′ _)
+
+  pub capi-fm1-next-tick-due-once : Once 𝓤 capi-fm1-next-tick-due.ended (capi-fm1-next-tick-due.clauses 𝓤 H A mem run) (nothingLent capi-fm1-next-tick-due.ended)
+  capi-fm1-next-tick-due-once κs args g r r′ e e′ = once 𝓤 r r′ _ tt tt tt _ _ (alone 𝓤 r _) (alone 𝓤 r′ _)
+
+  pub capi-fm1-idle-once : Once 𝓤 capi-fm1-idle.ended (capi-fm1-idle.clauses 𝓤 H A mem run) (nothingLent capi-fm1-idle.ended)
+  capi-fm1-idle-once κs args g r r′ e e′ = once 𝓤 r r′ _ tt tt tt _ _ (alone 𝓤 r _) (alone 𝓤 r′ _)
+
+  pub capi-fm1-any-pending-once : Once 𝓤 capi-fm1-any-pending.ended (capi-fm1-any-pending.clauses 𝓤 H A mem run) (nothingLent capi-fm1-any-pending.ended)
+  capi-fm1-any-pending-once κs args g r r′ e e′ = once 𝓤 r r′ _ tt tt tt _ _ (alone 𝓤 r _) (alone 𝓤 r′ _)
+
+  pub capi-fm1-irq-enabled-once : Once 𝓤 capi-fm1-irq-enabled.ended (capi-fm1-irq-enabled.clauses 𝓤 H A mem run) (nothingLent capi-fm1-irq-enabled.ended)
+  capi-fm1-irq-enabled-once κs args g r r′ e e′ = once 𝓤 r r′ _ tt tt tt _ _ (alone 𝓤 r _) (alone 𝓤 r′ _)
+
+  pub capi-fm1-pending-irq-for-once : Once 𝓤 capi-fm1-pending-irq-for.ended (capi-fm1-pending-irq-for.clauses 𝓤 H A mem run) (nothingLent capi-fm1-pending-irq-for.ended)
+  capi-fm1-pending-irq-for-once κs args g r r′ e e′ = once 𝓤 r r′ _ tt tt tt _ _ (alone 𝓤 r _) (alone 𝓤 r′ _)
+
+  pub capi-fm1-pending-irq-once : Once 𝓤 capi-fm1-pending-irq.ended (capi-fm1-pending-irq.clauses 𝓤 H A mem run) (nothingLent capi-fm1-pending-irq.ended)
+  capi-fm1-pending-irq-once κs args g r r′ e e′ = once 𝓤 r r′ _ tt tt tt _ _ (alone 𝓤 r _) (alone 𝓤 r′ _)
+
+  pub capi-fm1-led-take-once : Once 𝓤 capi-fm1-led-take.ended (capi-fm1-led-take.clauses 𝓤 H A mem run) (nothingLent capi-fm1-led-take.ended)
+  capi-fm1-led-take-once κs args g r r′ e e′ = once 𝓤 r r′ _ tt tt tt _ _ (alone 𝓤 r _) (alone 𝓤 r′ _)
+
+  pub capi-fm1-spi1-start-once : Once 𝓤 capi-fm1-spi1-start.ended (capi-fm1-spi1-start.clauses 𝓤 H A mem run) (nothingLent capi-fm1-spi1-start.ended)
+  capi-fm1-spi1-start-once κs args g r r′ e e′ = once 𝓤 r r′ _ tt tt tt _ _ (alone 𝓤 r _) (alone 𝓤 r′ _)
+
+  pub capi-fm1-spi2-start-once : Once 𝓤 capi-fm1-spi2-start.ended (capi-fm1-spi2-start.clauses 𝓤 H A mem run) (nothingLent capi-fm1-spi2-start.ended)
+  capi-fm1-spi2-start-once κs args g r r′ e e′ = once 𝓤 r r′ _ tt tt tt _ _ (alone 𝓤 r _) (alone 𝓤 r′ _)
+
+  pub capi-fm1-spi1-irq-off-once : Once 𝓤 capi-fm1-spi1-irq-off.ended (capi-fm1-spi1-irq-off.clauses 𝓤 H A mem run) (nothingLent capi-fm1-spi1-irq-off.ended)
+  capi-fm1-spi1-irq-off-once κs args g r r′ e e′ = once 𝓤 r r′ _ tt tt tt _ _ (alone 𝓤 r _) (alone 𝓤 r′ _)
+
+  pub capi-fm1-sr-shift-byte-once : Once 𝓤 capi-fm1-sr-shift-byte.ended (capi-fm1-sr-shift-byte.clauses 𝓤 H A mem run) (nothingLent capi-fm1-sr-shift-byte.ended)
+  capi-fm1-sr-shift-byte-once κs args g r r′ e e′ = once 𝓤 r r′ _ tt tt tt _ _ (alone 𝓤 r _) (alone 𝓤 r′ _)
+
+  pub capi-fm1-ms-once : Once 𝓤 capi-fm1-ms.ended (capi-fm1-ms.clauses 𝓤 H A mem run) (nothingLent capi-fm1-ms.ended)
+  capi-fm1-ms-once κs args g r r′ e e′ = once 𝓤 r r′ _ tt tt tt _ _ (alone 𝓤 r _) (alone 𝓤 r′ _)
+
+  pub capi-fm1-cycle-of-ms-once : Once 𝓤 capi-fm1-cycle-of-ms.ended (capi-fm1-cycle-of-ms.clauses 𝓤 H A mem run) (nothingLent capi-fm1-cycle-of-ms.ended)
+  capi-fm1-cycle-of-ms-once κs args g r r′ e e′ = once 𝓤 r r′ _ tt tt tt _ _ (alone 𝓤 r _) (alone 𝓤 r′ _)
+
+  pub capi-fm1-midi-queued-once : Once 𝓤 capi-fm1-midi-queued.ended (capi-fm1-midi-queued.clauses 𝓤 H A mem run) (nothingLent capi-fm1-midi-queued.ended)
+  capi-fm1-midi-queued-once κs args g r r′ e e′ = once 𝓤 r r′ _ tt tt tt _ _ (alone 𝓤 r _) (alone 𝓤 r′ _)
+
+  pub capi-fm1-midi-dropped-once : Once 𝓤 capi-fm1-midi-dropped.ended (capi-fm1-midi-dropped.clauses 𝓤 H A mem run) (nothingLent capi-fm1-midi-dropped.ended)
+  capi-fm1-midi-dropped-once κs args g r r′ e e′ = once 𝓤 r r′ _ tt tt tt _ _ (alone 𝓤 r _) (alone 𝓤 r′ _)
+
+  pub capi-fm1-set-cycle-ticks-once : Once 𝓤 capi-fm1-set-cycle-ticks.ended (capi-fm1-set-cycle-ticks.clauses 𝓤 H A mem run) (nothingLent capi-fm1-set-cycle-ticks.ended)
+  capi-fm1-set-cycle-ticks-once κs args g r r′ e e′ = once 𝓤 r r′ _ tt tt tt _ _ (alone 𝓤 r _) (alone 𝓤 r′ _)
+
+  pub capi-fm1-set-skip-idle-once : Once 𝓤 capi-fm1-set-skip-idle.ended (capi-fm1-set-skip-idle.clauses 𝓤 H A mem run) (nothingLent capi-fm1-set-skip-idle.ended)
+  capi-fm1-set-skip-idle-once κs args g r r′ e e′ = once 𝓤 r r′ _ tt tt tt _ _ (alone 𝓤 r _) (alone 𝓤 r′ _)
+
+  pub capi-fm1-set-in-isr-once : Once 𝓤 capi-fm1-set-in-isr.ended (capi-fm1-set-in-isr.clauses 𝓤 H A mem run) (nothingLent capi-fm1-set-in-isr.ended)
+  capi-fm1-set-in-isr-once κs args g r r′ e e′ = once 𝓤 r r′ _ tt tt tt _ _ (alone 𝓤 r _) (alone 𝓤 r′ _)
+
+  pub capi-fm1-set-room-cap-once : Once 𝓤 capi-fm1-set-room-cap.ended (capi-fm1-set-room-cap.clauses 𝓤 H A mem run) (nothingLent capi-fm1-set-room-cap.ended)
+  capi-fm1-set-room-cap-once κs args g r r′ e e′ = once 𝓤 r r′ _ tt tt tt _ _ (alone 𝓤 r _) (alone 𝓤 r′ _)
+
+  pub capi-fm1-set-exc-pending-once : Once 𝓤 capi-fm1-set-exc-pending.ended (capi-fm1-set-exc-pending.clauses 𝓤 H A mem run) (nothingLent capi-fm1-set-exc-pending.ended)
+  capi-fm1-set-exc-pending-once κs args g r r′ e e′ = once 𝓤 r r′ _ tt tt tt _ _ (alone 𝓤 r _) (alone 𝓤 r′ _)
+
+  pub capi-fm1-set-spi2-pending-once : Once 𝓤 capi-fm1-set-spi2-pending.ended (capi-fm1-set-spi2-pending.clauses 𝓤 H A mem run) (nothingLent capi-fm1-set-spi2-pending.ended)
+  capi-fm1-set-spi2-pending-once κs args g r r′ e e′ = once 𝓤 r r′ _ tt tt tt _ _ (alone 𝓤 r _) (alone 𝓤 r′ _)
+
+  pub capi-fm1-set-usb-once : Once 𝓤 capi-fm1-set-usb.ended (capi-fm1-set-usb.clauses 𝓤 H A mem run) (nothingLent capi-fm1-set-usb.ended)
+  capi-fm1-set-usb-once κs args g r r′ e e′ = once 𝓤 r r′ _ tt tt tt _ _ (alone 𝓤 r _) (alone 𝓤 r′ _)
+
+  pub capi-fm1-set-wdt-once : Once 𝓤 capi-fm1-set-wdt.ended (capi-fm1-set-wdt.clauses 𝓤 H A mem run) (nothingLent capi-fm1-set-wdt.ended)
+  capi-fm1-set-wdt-once κs args g r r′ e e′ = once 𝓤 r r′ _ tt tt tt _ _ (alone 𝓤 r _) (alone 𝓤 r′ _)
+
+  pub capi-fm1-key-id-once : Once 𝓤 capi-fm1-key-id.ended (capi-fm1-key-id.clauses 𝓤 H A mem run) (nothingLent capi-fm1-key-id.ended)
+  capi-fm1-key-id-once κs args g r r′ e e′ = once 𝓤 r r′ _ tt tt tt _ _ (alone 𝓤 r _) (alone 𝓤 r′ _)
+
+  pub capi-fm1-enc-id-once : Once 𝓤 capi-fm1-enc-id.ended (capi-fm1-enc-id.clauses 𝓤 H A mem run) (nothingLent capi-fm1-enc-id.ended)
+  capi-fm1-enc-id-once κs args g r r′ e e′ = once 𝓤 r r′ _ tt tt tt _ _ (alone 𝓤 r _) (alone 𝓤 r′ _)
+
+  pub capi-fm1-marks-once : Once 𝓤 capi-fm1-marks.ended (capi-fm1-marks.clauses 𝓤 H A mem run) (nothingLent capi-fm1-marks.ended)
+  capi-fm1-marks-once κs args g r r′ e e′ = once 𝓤 r r′ _ tt tt tt _ _ (alone 𝓤 r _) (alone 𝓤 r′ _)
+
+  pub capi-fm1-port-new-once : Once 𝓤 capi-fm1-port-new.ended (capi-fm1-port-new.clauses 𝓤 H A mem run) (λ κs e. now (e .0))
+  capi-fm1-port-new-once κs args g r r′ e e′ = once 𝓤 r r′ _ (now (e .0)) (now (e′ .0)) _ _ _ (beside 𝓤 r _ (now (e .0)) _) (beside 𝓤 r′ _ (now (e′ .0)) _)
+
+  pub capi-fm1-port-read-once : Once 𝓤 capi-fm1-port-read.ended (capi-fm1-port-read.clauses 𝓤 H A mem run) (nothingLent capi-fm1-port-read.ended)
+  capi-fm1-port-read-once κs args g r r′ e e′ = once 𝓤 r r′ _ tt tt tt _ _ (alone 𝓤 r _) (alone 𝓤 r′ _)
+
+  pub capi-fm1-port-write-once : Once 𝓤 capi-fm1-port-write.ended (capi-fm1-port-write.clauses 𝓤 H A mem run) (λ κs e. now (e .1 .0))
+  capi-fm1-port-write-once κs args g r r′ e e′ = once 𝓤 r r′ _ (now (e .1 .0)) (now (e′ .1 .0)) _ _ _ (told 𝓤 r _ (now (e .1 .0)) _) (told 𝓤 r′ _ (now (e′ .1 .0)) _)
+
+  pub capi-fm1-port-chip-reset-once : Once 𝓤 capi-fm1-port-chip-reset.ended (capi-fm1-port-chip-reset.clauses 𝓤 H A mem run) (λ κs e. now (e .1 .0))
+  capi-fm1-port-chip-reset-once κs args g r r′ e e′ = once 𝓤 r r′ _ (now (e .1 .0)) (now (e′ .1 .0)) _ _ _ (told 𝓤 r _ (now (e .1 .0)) _) (told 𝓤 r′ _ (now (e′ .1 .0)) _)
+
+  pub capi-fm1-port-take-event-once : Once 𝓤 capi-fm1-port-take-event.ended (capi-fm1-port-take-event.clauses 𝓤 H A mem run) (nothingLent capi-fm1-port-take-event.ended)
+  capi-fm1-port-take-event-once κs args g r r′ e e′ = once 𝓤 r r′ _ tt tt tt _ _ (alone 𝓤 r _) (alone 𝓤 r′ _)
+
+  pub capi-fm1-port-reg-once : Once 𝓤 capi-fm1-port-reg.ended (capi-fm1-port-reg.clauses 𝓤 H A mem run) (nothingLent capi-fm1-port-reg.ended)
+  capi-fm1-port-reg-once κs args g r r′ e e′ = once 𝓤 r r′ _ tt tt tt _ _ (alone 𝓤 r _) (alone 𝓤 r′ _)
+
+  pub capi-fm1-port-same-once : Once 𝓤 capi-fm1-port-same.ended (capi-fm1-port-same.clauses 𝓤 H A mem run) (nothingLent capi-fm1-port-same.ended)
+  capi-fm1-port-same-once κs args g r r′ e e′ = once 𝓤 r r′ _ tt tt tt _ _ (alone 𝓤 r _) (alone 𝓤 r′ _)
+
+  pub capi-fm1-port-same-snap-once : Once 𝓤 capi-fm1-port-same-snap.ended (capi-fm1-port-same-snap.clauses 𝓤 H A mem run) (nothingLent capi-fm1-port-same-snap.ended)
+  capi-fm1-port-same-snap-once κs args g r r′ e e′ = once 𝓤 r r′ _ tt tt tt _ _ (alone 𝓤 r _) (alone 𝓤 r′ _)
+
+  pub capi-fm1-wdt-ms-once : Once 𝓤 capi-fm1-wdt-ms.ended (capi-fm1-wdt-ms.clauses 𝓤 H A mem run) (nothingLent capi-fm1-wdt-ms.ended)
+  capi-fm1-wdt-ms-once κs args g r r′ e e′ = once 𝓤 r r′ _ tt tt tt _ _ (alone 𝓤 r _) (alone 𝓤 r′ _)

@@ -34,8 +34,8 @@ find-requires c κs = search needs
 passed-requires : tie.Need-passed-requires Inv-loop μ-loop
 passed-requires c κs = search needs
 
-quick-requires : tie.Need-quick-requires Inv-loop μ-loop
-quick-requires c κs = c .before .before .before .before .before .before .before .before .before .before .before .loop .inv
+glance-requires : tie.Need-glance-requires Inv-loop μ-loop
+glance-requires c κs = c .before .before .before .before .before .before .before .before .before .before .before .loop .inv
 
 told-requires : tie.Need-told-requires Inv-loop μ-loop
 told-requires c κs = search needs
@@ -44,28 +44,40 @@ ends-requires : tie.Need-ends-requires Inv-loop μ-loop
 ends-requires c κs = search needs
 
 loop-less : tie.Need-loop-less Inv-loop μ-loop
-loop-less c = c .before .before .before .before .before .before .before .before .before .before .before .before .before .before .before .before .before .before .before .loop-test .taken
+loop-less c = c .before .before .before .before .before .before .before .before .before .before .before .before .before .before .before .before .before .before .before .before .before .before .before .before .loop-test .taken
 
 loop-again : tie.Need-loop-again Inv-loop μ-loop
-loop-again c = c .before .before .before .before .before .before .before .before .quick .ensures .1 .1
+loop-again c = c .before .before .before .before .before .before .before .before .before .before .before .before .before .glance .ensures .1 .1
 
 loop-less-2 : tie.Need-loop-less-2 Inv-loop μ-loop
-loop-less-2 c = one-fewer (c .before .before .before .before .before .before .before .before .before .before .before .before .before .before .before .before .before .before .before .before .loop .turns) (c .before .before .before .before .before .before .before .before .before .before .before .before .before .before .before .before .before .before .before .loop-test .taken)
+loop-less-2 c = one-fewer (c .before .before .before .before .before .before .before .before .before .before .before .before .before .before .before .before .before .before .before .before .before .before .before .before .before .loop .turns) (c .before .before .before .before .before .before .before .before .before .before .before .before .before .before .before .before .before .before .before .before .before .before .before .before .loop-test .taken)
 
 loop-again-2 : tie.Need-loop-again-2 Inv-loop μ-loop
-loop-again-2 c = c .before .before .before .before .before .before .before .before .quick .ensures .1 .1
+loop-again-2 c = c .before .before .before .before .before .before .before .before .before .before .before .before .before .glance .ensures .1 .1
 
-carry-requires : tie.Need-carry-requires Inv-loop μ-loop
-carry-requires c κs = search needs
+quick-requires : tie.Need-quick-requires Inv-loop μ-loop
+quick-requires c κs = c .before .before .before .before .before .before .before .before .before .before .before .before .before .before .glance .ensures .1 .1
 
 told-requires-2 : tie.Need-told-requires-2 Inv-loop μ-loop
 told-requires-2 c κs = search needs
 
 loop-less-3 : tie.Need-loop-less-3 Inv-loop μ-loop
-loop-less-3 c = one-fewer (c .before .before .before .before .before .before .before .before .before .before .before .before .before .before .before .before .before .before .before .before .before .before .before .before .before .before .before .before .before .before .before .before .before .before .before .loop .turns) (c .before .before .before .before .before .before .before .before .before .before .before .before .before .before .before .before .before .before .before .before .before .before .before .before .before .before .before .before .before .before .before .before .before .before .loop-test .taken)
+loop-less-3 c = one-fewer (c .before .before .before .before .before .before .before .before .before .before .before .before .before .before .before .before .before .before .before .before .before .before .before .before .before .before .before .before .before .before .before .loop .turns) (c .before .before .before .before .before .before .before .before .before .before .before .before .before .before .before .before .before .before .before .before .before .before .before .before .before .before .before .before .before .before .loop-test .taken)
 
 loop-again-3 : tie.Need-loop-again-3 Inv-loop μ-loop
-loop-again-3 c = c .before .before .before .before .before .before .before .before .before .before .before .before .before .carry .ensures .1 .1 (c .before .before .before .before .before .before .before .before .before .before .before .before .before .before .before .before .before .before .before .before .before .before .before .quick .ensures .1 .1)
+loop-again-3 c = c .before .before .before .before .quick .ensures .1 .1
+
+carry-requires : tie.Need-carry-requires Inv-loop μ-loop
+carry-requires c κs = search needs
+
+told-requires-3 : tie.Need-told-requires-3 Inv-loop μ-loop
+told-requires-3 c κs = search needs
+
+loop-less-4 : tie.Need-loop-less-4 Inv-loop μ-loop
+loop-less-4 c = one-fewer (c .before .before .before .before .before .before .before .before .before .before .before .before .before .before .before .before .before .before .before .before .before .before .before .before .before .before .before .before .before .before .before .before .before .before .before .before .before .before .before .before .before .before .before .before .before .before .before .before .loop .turns) (c .before .before .before .before .before .before .before .before .before .before .before .before .before .before .before .before .before .before .before .before .before .before .before .before .before .before .before .before .before .before .before .before .before .before .before .before .before .before .before .before .before .before .before .before .before .before .before .loop-test .taken)
+
+loop-again-4 : tie.Need-loop-again-4 Inv-loop μ-loop
+loop-again-4 c = c .before .before .before .before .before .before .before .before .before .before .before .before .before .carry .ensures .1 .1 (c .before .before .before .before .before .before .before .before .before .before .before .before .before .before .before .before .before .before .before .before .before .quick .ensures .1 .1)
 
 flush-requires : tie.Need-flush-requires Inv-loop μ-loop
 flush-requires c κs = search needs
@@ -101,17 +113,21 @@ run-spec =
     fed-requires
     find-requires
     passed-requires
-    quick-requires
+    glance-requires
     told-requires
     ends-requires
     loop-less
     loop-again
     loop-less-2
     loop-again-2
-    carry-requires
+    quick-requires
     told-requires-2
     loop-less-3
     loop-again-3
+    carry-requires
+    told-requires-3
+    loop-less-4
+    loop-again-4
     flush-requires
     same-length
     same-length-2

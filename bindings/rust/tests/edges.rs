@@ -1,0 +1,112 @@
+//! What a caller can hand over wrongly: every call ends with its number, and record and lent memory are as they were.
+use fm1::sys::*;
+use fm1::{Action, Board, Port, Refused};
+
+/// A record of pseudo-random bytes.
+fn noise(seed: &mut u64) -> fm1::sys::Board {
+    let mut words = [0u64; std::mem::size_of::<fm1::sys::Board>() / 8];
+    for word in &mut words {
+        *seed = seed.wrapping_mul(6364136223846793005).wrapping_add(1442695040888963407);
+        *word = *seed >> 7 ^ *seed << 31;
+    }
+    unsafe { std::mem::transmute(words) }
+}
+
+fn bytes(record: &fm1::sys::Board) -> Vec<u8> {
+    unsafe { std::slice::from_raw_parts(record as *const _ as *const u8, std::mem::size_of_val(record)).to_vec() }
+}
+
+/// The panel's four bytes of padding behind the ramps may change in a copy.
+fn without_padding(mut record: Vec<u8>) -> Vec<u8> {
+    let ramps = std::mem::offset_of!(fm1::sys::Board, panel) + std::mem::offset_of!(Panel, ramps);
+    record[ramps + 820..ramps + 824].fill(0);
+    record
+}
+
+#[test]
+fn any_bytes_are_answered() {
+    let mut seed = 1;
+    let mut board = Board::new(240_000_000).unwrap();
+    for _ in 0..1000 {
+        *board.record_mut() = noise(&mut seed);
+        let before = without_padding(bytes(board.record()));
+        let midi = Action::Midi { b: 0x90 };
+        let refused = [
+            board.advance(1).err(),
+            board.apply(&midi).err(),
+            board.push(1, &midi).err(),
+            board.chip_reset().err(),
+            board.read(0x10804).err(),
+            board.write(0x10800, 1).err(),
+            board.tick().err(),
+            board.tick_room().err(),
+            board.next_tick_due().err(),
+            board.idle().err(),
+            board.any_pending().err(),
+            board.irq_enabled(0, 1).err(),
+            board.pending_irq().err(),
+            board.pending_irq_for(1).err(),
+            board.led_take().err(),
+            board.spi1_start(1, 1, true).err(),
+            board.spi2_start(1, 1, true).err(),
+            board.spi1_irq_off().err(),
+            board.sr_shift_byte(1).err(),
+            board.ms().err(),
+            board.cycle_of_ms(1).err(),
+            board.midi_queued().err(),
+            board.midi_dropped().err(),
+            board.set_cycle_ticks(1).err(),
+            board.set_skip_idle(true).err(),
+            board.set_in_isr(true).err(),
+            board.set_room_cap(1).err(),
+            board.set_exc_pending(true).err(),
+            board.set_spi2_pending(true).err(),
+            board.set_usb(1, 1).err(),
+            board.set_wdt(1).err(),
+        ];
+        assert_eq!(refused, [Some(Refused::State); 31]);
+        assert_eq!(without_padding(bytes(board.record())), before);
+    }
+}
+
+#[test]
+fn refusals_come_in_their_order() {
+    assert_eq!(Board::new(999_999).err(), Some(Refused::Clock));
+    let mut board = Board::new(1_000_000).unwrap();
+    assert_eq!(board.advance((1 << 53) + 1).err(), Some(Refused::Time));
+    assert_eq!(board.set_usb(1, 0).err(), Some(Refused::Param));
+    for time in 0..256 {
+        board.push(time, &Action::KeyVel { vel: 1 }).unwrap();
+    }
+    assert_eq!(board.push(1, &Action::KeyVel { vel: 1 }).err(), Some(Refused::Full));
+    let record = *board.record();
+    let (mut bank, mut other) = ([7u32; 31], [7u32; 32]);
+    let a = unsafe { fm1_write(record, 0x10800, 1, bank.as_mut_ptr(), bank.len(), other.as_mut_ptr(), other.len()) };
+    assert_eq!(a.refused, SIZE);
+    assert_eq!((bank, other), ([7; 31], [7; 32]));
+}
+
+#[test]
+fn a_flag_is_0_or_1() {
+    let board = Board::new(240_000_000).unwrap();
+    for on in 0..=255 {
+        let a = unsafe { fm1_set_in_isr(*board.record(), on) };
+        assert_eq!(a.refused, if on < 2 { 0 } else { STATE });
+        assert_eq!(a.board.chip.clock.in_isr, (on == 1) as u64);
+        let a = unsafe { fm1_spi2_start(*board.record(), 65_537, 0, on) };
+        assert_eq!(a.refused, if on < 2 { PARAM } else { STATE });
+    }
+    let regs = [0u8; PORT_BYTES];
+    assert_eq!(unsafe { fm1_port_reg(regs.as_ptr(), regs.len() - 1, 0, 2) }.refused, SIZE);
+    assert_eq!(unsafe { fm1_port_reg(regs.as_ptr(), regs.len(), 0, 2) }.refused, STATE);
+}
+
+#[test]
+fn an_unknown_event_is_none() {
+    let mut port = Port::new();
+    port.record_mut().event = 77;
+    assert_eq!(port.take_event(), None);
+    port.record_mut().changed = 1 << 62;
+    assert_eq!(port.write(0x13e08, 1).err(), Some(Refused::Count));
+    assert_eq!(port.record().changed, 1 << 62);
+}

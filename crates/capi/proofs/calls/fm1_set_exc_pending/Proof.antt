@@ -1,0 +1,24 @@
+use Rattle.capi.specs.Edge.{flagged}
+use borrow.Author.Tests.{lt-ltb, le-ltb}
+use borrow.Author.Needs.{needs}
+use Rattle.capi.proofs.calls.fm1_set_exc_pending.Statement.{statement}
+use Rattle.capi.proofs.calls.fm1_set_exc_pending.Tie as tie
+
+no-flag-requires : tie.Need-no-flag-requires
+no-flag-requires c κs = search needs
+
+returns : tie.Need-returns
+unfolding flagged
+returns c = rw (lt-ltb _ _ (c .before .if1 .taken), c .no-flag .ensures)
+
+set-exc-pending-requires : tie.Need-set-exc-pending-requires
+set-exc-pending-requires c κs = search needs
+
+returns-2 : tie.Need-returns-2
+unfolding flagged
+returns-2 c = rw (le-ltb _ _ (c .before .if1 .left), c .set-exc-pending .ensures)
+
+pub fm1-set-exc-pending-spec : {M : Type 1} → statement M
+fm1-set-exc-pending-spec =
+    tie.close
+    (tie.spec no-flag-requires returns set-exc-pending-requires returns-2)

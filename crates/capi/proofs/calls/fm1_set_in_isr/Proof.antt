@@ -1,0 +1,23 @@
+use Rattle.capi.specs.Edge.{flagged}
+use borrow.Author.Tests.{lt-ltb, le-ltb}
+use borrow.Author.Needs.{needs}
+use Rattle.capi.proofs.calls.fm1_set_in_isr.Statement.{statement}
+use Rattle.capi.proofs.calls.fm1_set_in_isr.Tie as tie
+
+no-flag-requires : tie.Need-no-flag-requires
+no-flag-requires c κs = search needs
+
+returns : tie.Need-returns
+unfolding flagged
+returns c = rw (lt-ltb _ _ (c .before .if1 .taken), c .no-flag .ensures)
+
+set-in-isr-requires : tie.Need-set-in-isr-requires
+set-in-isr-requires c κs = search needs
+
+returns-2 : tie.Need-returns-2
+unfolding flagged
+returns-2 c = rw (le-ltb _ _ (c .before .if1 .left), c .set-in-isr .ensures)
+
+pub fm1-set-in-isr-spec : {M : Type 1} → statement M
+fm1-set-in-isr-spec =
+    tie.close (tie.spec no-flag-requires returns set-in-isr-requires returns-2)

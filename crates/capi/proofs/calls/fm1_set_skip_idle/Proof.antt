@@ -1,0 +1,23 @@
+use Rattle.capi.specs.Edge.{flagged}
+use borrow.Author.Tests.{lt-ltb, le-ltb}
+use borrow.Author.Needs.{needs}
+use Rattle.capi.proofs.calls.fm1_set_skip_idle.Statement.{statement}
+use Rattle.capi.proofs.calls.fm1_set_skip_idle.Tie as tie
+
+no-flag-requires : tie.Need-no-flag-requires
+no-flag-requires c κs = search needs
+
+returns : tie.Need-returns
+unfolding flagged
+returns c = rw (lt-ltb _ _ (c .before .if1 .taken), c .no-flag .ensures)
+
+set-skip-idle-requires : tie.Need-set-skip-idle-requires
+set-skip-idle-requires c κs = search needs
+
+returns-2 : tie.Need-returns-2
+unfolding flagged
+returns-2 c = rw (le-ltb _ _ (c .before .if1 .left), c .set-skip-idle .ensures)
+
+pub fm1-set-skip-idle-spec : {M : Type 1} → statement M
+fm1-set-skip-idle-spec =
+    tie.close (tie.spec no-flag-requires returns set-skip-idle-requires returns-2)

@@ -1,0 +1,23 @@
+use Rattle.capi.specs.Edge.{flagged}
+use borrow.Author.Tests.{lt-ltb, le-ltb}
+use borrow.Author.Needs.{needs}
+use Rattle.capi.proofs.calls.fm1_spi2_start.Statement.{statement}
+use Rattle.capi.proofs.calls.fm1_spi2_start.Tie as tie
+
+no-flag-requires : tie.Need-no-flag-requires
+no-flag-requires c κs = search needs
+
+returns : tie.Need-returns
+unfolding flagged
+returns c = rw (lt-ltb _ _ (c .before .if1 .taken), c .no-flag .ensures)
+
+spi2-start-requires : tie.Need-spi2-start-requires
+spi2-start-requires c κs = search needs
+
+returns-2 : tie.Need-returns-2
+unfolding flagged
+returns-2 c = rw (le-ltb _ _ (c .before .if1 .left), c .spi2-start .ensures)
+
+pub fm1-spi2-start-spec : {M : Type 1} → statement M
+fm1-spi2-start-spec =
+    tie.close (tie.spec no-flag-requires returns spi2-start-requires returns-2)

@@ -1,0 +1,3 @@
+pub mod Edge
+pub mod Marks
+pub mod Ports

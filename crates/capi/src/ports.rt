@@ -1,0 +1,226 @@
+// The P33 port's calls. Its record crosses with the event as a number: 0 none, 1 the watchdog's control written, 2 the same with a feed, 3 a reset; any other number is read as none.
+use crate::Port;
+use crate::PortAnswered;
+use crate::Said;
+use crate::told;
+use base::when;
+use board::SIZE;
+use board::STATE;
+use p33::Event;
+use p33::P33;
+use p33::REGS;
+ghost use mathlib.Core.Bool.{cond};
+ghost use mathlib.Core.Path.{_≡_};
+ghost use Rattle.base.specs.Bits.{whenOf};
+ghost use Rattle.times.specs.Watchdog.{wdtMs};
+ghost use Rattle.p33.specs.P33.{
+  newOf,
+  newIn,
+  takenOf,
+  resetOf,
+  resetIn,
+  regOf,
+  readOf,
+  snapOf,
+  writeOf,
+  writeIn,
+};
+ghost use Rattle.p33.specs.Sameness.{sameSnap, sameOf};
+ghost use Rattle.capi.specs.Ports.{
+  numberOf,
+  eventOf,
+  portIn,
+  portOut,
+  ofPortDone,
+  ofTaken,
+  ofRegister,
+  ofCompared,
+  registerOf,
+};
+
+fn fed_number(fed: bool) -> u32
+    ensures { λ r. ⌜ r ≡ cond fed 2 1 ⌝ }
+{
+    if fed {
+        return 2;
+    }
+    1
+}
+
+fn number_of(event: Event) -> u32
+    ensures { λ r. ⌜ r ≡ numberOf event ⌝ }
+{
+    match event {
+        Event::None => 0,
+        Event::Wdt { fed } => fed_number(fed),
+        Event::Reset => 3,
+    }
+}
+
+fn event_of(n: u32) -> Event
+    ensures { λ r. ⌜ r ≡ eventOf n ⌝ }
+{
+    if n == 1 {
+        return Event::Wdt { fed: false };
+    }
+    if n == 2 {
+        return Event::Wdt { fed: true };
+    }
+    if n == 3 {
+        return Event::Reset;
+    }
+    Event::None
+}
+
+fn port_in(p: Port) -> P33
+    ensures { λ r. ⌜ r ≡ portIn p ⌝ }
+{
+    let event = event_of(p.event);
+    P33 {
+        con: p.con,
+        dat: p.dat,
+        step: p.step,
+        cmd: p.cmd,
+        addr: p.addr,
+        changed: p.changed,
+        event: event,
+    }
+}
+
+fn port_out(p: P33) -> Port
+    ensures { λ r. ⌜ r ≡ portOut p ⌝ }
+{
+    let event = p.event;
+    Port {
+        changed: p.changed,
+        con: p.con,
+        dat: p.dat,
+        event: number_of(event),
+        addr: p.addr,
+        step: p.step,
+        cmd: p.cmd,
+    }
+}
+
+fn of_port_done(d: p33::Done) -> PortAnswered
+    ensures { λ r. ⌜ r ≡ ofPortDone d ⌝ }
+{
+    let p = d.port;
+    PortAnswered {
+        port: port_out(p),
+        said: told(0, d.refused as u32, 0),
+    }
+}
+
+fn of_taken(t: p33::Taken) -> PortAnswered
+    ensures { λ r. ⌜ r ≡ ofTaken t ⌝ }
+{
+    let p = t.port;
+    let event = t.event;
+    let n = number_of(event);
+    PortAnswered {
+        port: port_out(p),
+        said: told(n as u64, 0, when(n != 0, 1)),
+    }
+}
+
+fn of_register(v: p33::Value) -> Said
+    ensures { λ r. ⌜ r ≡ ofRegister v ⌝ }
+{
+    told(v.value as u64, v.refused as u32, 0)
+}
+
+fn of_compared(c: p33::Compared) -> Said
+    ensures { λ r. ⌜ r ≡ ofCompared c ⌝ }
+{
+    told(0, c.refused as u32, when(c.same, 1))
+}
+
+// A port at power-on; its memory is zeroed. SIZE.
+#[no_mangle]
+pub extern "C" fn fm1_port_new(regs: &mut [u8]) -> PortAnswered
+    ensures { λ r. ⌜ r ≡ ofPortDone (newOf (now (regs .entry))) ⌝ }
+    ensures memory { λ _. ⌜ now (regs .exit) ≡ newIn (now (regs .entry)) ⌝ }
+{
+    of_port_done(P33::new(regs))
+}
+
+// CON or DAT.
+#[no_mangle]
+pub extern "C" fn fm1_port_read(p: Port, addr: u32) -> u32
+    ensures { λ r. ⌜ r ≡ readOf (portIn p) addr ⌝ }
+{
+    let q = port_in(p);
+    q.read(addr)
+}
+
+// A write to CON or DAT. SIZE, COUNT.
+#[no_mangle]
+pub extern "C" fn fm1_port_write(p: Port, regs: &mut [u8], addr: u32, value: u32) -> PortAnswered
+    ensures { λ r. ⌜ (r ≡ ofPortDone (writeOf (portIn p) (now (regs .entry)) addr value)) × (now (regs .exit) ≡ writeIn (portIn p) (now (regs .entry)) addr value) ⌝ }
+{
+    let q = port_in(p);
+    of_port_done(q.write(regs, addr, value))
+}
+
+// A chip reset and its cause. SIZE, COUNT.
+#[no_mangle]
+pub extern "C" fn fm1_port_chip_reset(p: Port, regs: &mut [u8], cause: u8) -> PortAnswered
+    ensures { λ r. ⌜ (r ≡ ofPortDone (resetOf (portIn p) (now (regs .entry)))) × (now (regs .exit) ≡ resetIn (portIn p) (now (regs .entry)) cause) ⌝ }
+{
+    let q = port_in(p);
+    of_port_done(q.chip_reset(regs, cause))
+}
+
+// The event, as `value`; it is taken.
+#[no_mangle]
+pub extern "C" fn fm1_port_take_event(p: Port) -> PortAnswered
+    ensures { λ r. ⌜ r ≡ ofTaken (takenOf (portIn p)) ⌝ }
+{
+    let q = port_in(p);
+    of_taken(q.take_event())
+}
+
+// A register of the main domain, or of the RTC's where `rtc` is 1. SIZE, STATE.
+#[no_mangle]
+pub extern "C" fn fm1_port_reg(regs: &[u8], addr: u16, rtc: u8) -> Said
+    ensures { λ r. ⌜ r ≡ registerOf (now (regs .entry)) addr rtc ⌝ }
+{
+    if regs.len() != REGS {
+        return told(0, SIZE, 0);
+    }
+    if 1 < rtc {
+        return told(0, STATE, 0);
+    }
+    of_register(P33::reg(regs, addr, rtc == 1))
+}
+
+// Whether two ports are the same. SIZE.
+#[no_mangle]
+pub extern "C" fn fm1_port_same(a: Port, regs_a: &[u8], b: Port, regs_b: &[u8]) -> Said
+    ensures { λ r. ⌜ r ≡ ofCompared (sameOf (portIn a) (now («regs_a» .entry)) (portIn b) (now («regs_b» .entry))) ⌝ }
+{
+    let p = port_in(a);
+    let q = port_in(b);
+    of_compared(p33::same(p, regs_a, q, regs_b))
+}
+
+// Whether one port at two times has equal snaps.
+#[no_mangle]
+pub extern "C" fn fm1_port_same_snap(a: Port, b: Port) -> u32
+    ensures { λ r. ⌜ r ≡ whenOf (sameSnap (snapOf (portIn a)) (snapOf (portIn b))) 1 ⌝ }
+{
+    let p = port_in(a);
+    let q = port_in(b);
+    let x = p.snap();
+    let y = q.snap();
+    when(p33::same_snap(x, y), 1)
+}
+
+// The watchdog's period in ms for a control byte.
+#[no_mangle]
+pub extern "C" fn fm1_wdt_ms(con: u8) -> u64
+    ensures { λ r. ⌜ r ≡ wdtMs con ⌝ }
+{
+    P33::wdt_ms(con)
+}
