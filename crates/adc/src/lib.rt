@@ -32,6 +32,7 @@ ghost use Rattle.adc.specs.Adc.{
   valueSet,
 };
 
+#[repr(C)]
 pub struct Adc {
     pub con: u32,
     pub noise: u32,

@@ -23,6 +23,7 @@ ghost use Rattle.audio.specs.Audio.{
   audioWhole,
 };
 
+#[repr(C)]
 pub struct Audio {
     pub next: u64,
     // halves played, a count that wraps

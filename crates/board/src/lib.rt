@@ -76,11 +76,13 @@ const SPI_BAUD: u32 = 16383;
 
 const MS_MAX: u64 = 0x4_0000_0000;
 
+#[repr(C)]
 pub struct Done {
     pub board: Board,
     pub refused: u32,
 }
 
+#[repr(C)]
 pub struct Ticked {
     pub board: Board,
     pub refused: u32,
@@ -93,12 +95,14 @@ pub struct Reading {
     pub value: Value,
 }
 
+#[repr(C)]
 pub struct Written {
     pub board: Board,
     pub refused: u32,
     pub handled: bool,
 }
 
+#[repr(C)]
 pub struct Lit {
     pub board: Board,
     pub lit: [u64; 41],
@@ -106,11 +110,13 @@ pub struct Lit {
     pub refused: u32,
 }
 
+#[repr(C)]
 pub struct Flag {
     pub refused: u32,
     pub is: bool,
 }
 
+#[repr(C)]
 pub struct Number {
     pub value: u64,
     pub refused: u32,

@@ -36,6 +36,7 @@ pub const IRQ_TIMER5: u8 = 63;
 // ---- the latch ----------------------------------------------------------------
 
 // What software raises (bit b is interrupt 120 + b), and the processor's exception. A flag is 0 or not 0.
+#[repr(C)]
 pub struct Latch {
     pub ilat: u32,
     pub exc_pending: u32,

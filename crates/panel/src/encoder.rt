@@ -25,6 +25,7 @@ ghost use Rattle.panel.specs.Encoder.{
   encsWhole,
 };
 
+#[repr(C)]
 pub struct Enc {
     pub next: u64,
     pub pending: u32,

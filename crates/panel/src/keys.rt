@@ -31,6 +31,7 @@ ghost use Rattle.panel.specs.Keys.{
 };
 ghost use Rattle.panel.specs.Facts.{RampsShort};
 
+#[repr(C)]
 pub struct Keys {
     // bit i is key i
     pub down: u64,
@@ -38,6 +39,7 @@ pub struct Keys {
     pub vel: u64,
 }
 
+#[repr(C)]
 pub struct Ramps {
     pub t0: [u64; 41],
     pub dur: [u32; 41],

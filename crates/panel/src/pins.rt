@@ -24,6 +24,7 @@ ghost use Rattle.panel.specs.Pins.{
   pinsWhole,
 };
 
+#[repr(C)]
 pub struct Pins {
     // the last change of the LED lines or the latch; when the light was last taken; the time in the present state that is not yet charged
     pub led_last: u64,

@@ -38,6 +38,7 @@ ghost use Rattle.script.specs.Entries.{
 };
 ghost use Rattle.script.specs.Words.{packed, wordOf, actionOf, entryOf};
 
+#[repr(C)]
 pub struct Script {
     // the front's time, while any wait
     pub at: u64,

@@ -6,6 +6,7 @@ ghost use Prim.Native.Nat.{_<_, _≤_, _^_};
 ghost use Rattle.base.specs.Moments.{clockMax};
 ghost use Rattle.spi.specs.Spi.{spiNew, spi1Started, spi1Off, spi2Started, spi1At, spi2At, spiNext, spiWhole};
 
+#[repr(C)]
 pub struct Spi {
     // when SPI1's transfer ends, and its interrupt comes
     pub spi1_done_at: u64,

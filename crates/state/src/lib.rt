@@ -52,6 +52,7 @@ ghost use Rattle.state.specs.Whole.{HostOk};
 ghost use Rattle.base.specs.Moments.{clockMax};
 
 // The clock and the runner's settings.
+#[repr(C)]
 pub struct Clock {
     pub cycles: u64,
     // nothing timed happens before this cycle
@@ -66,12 +67,14 @@ pub struct Clock {
 }
 
 // Deadlines that the host sets: USB frames with their period, and the watchdog.
+#[repr(C)]
 pub struct Host {
     pub usb_next: u64,
     pub usb_period: u64,
     pub wdt_at: u64,
 }
 
+#[repr(C)]
 pub struct Chip {
     pub clock: Clock,
     pub t4: T4,
@@ -90,12 +93,14 @@ pub struct Chip {
     pub latch: Latch,
 }
 
+#[repr(C)]
 pub struct Panel {
     pub acc: [u64; 41],
     pub ramps: Ramps,
     pub values: [u16; 16],
 }
 
+#[repr(C)]
 pub struct Board {
     pub chip: Chip,
     pub panel: Panel,

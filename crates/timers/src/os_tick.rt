@@ -12,6 +12,7 @@ ghost use Prim.Native.Nat.{_<_, _≤_, _^_};
 ghost use Rattle.base.specs.Moments.{clockMax};
 ghost use Rattle.timers.specs.OsTick.{tickNew, tickPeriod, tickAt, tickCtl, tickCnt, tickCtlWritten, tickCntWritten, tickPrdWritten, tickWhole};
 
+#[repr(C)]
 pub struct Tick {
     pub start: u64,
     pub next: u64,

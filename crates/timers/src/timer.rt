@@ -27,6 +27,7 @@ ghost use Rattle.timers.specs.Timer.{
   tmrsWhole,
 };
 
+#[repr(C)]
 pub struct Tmr {
     pub start: u64,
     pub next: u64,

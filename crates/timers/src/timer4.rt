@@ -8,6 +8,7 @@ ghost use Prim.Native.Nat.{_≤_};
 ghost use Rattle.base.specs.Moments.{clockMax};
 ghost use Rattle.timers.specs.Timer4.{t4New, t4Cnt, t4ConWritten, t4CntWritten, t4Whole, streakOf, pollEnd, pollOf, pollSkipped, pollDue};
 
+#[repr(C)]
 pub struct T4 {
     pub base: u64,
     pub last_cnt_read: u64,

@@ -12,6 +12,7 @@ ghost use Prim.Native.Nat.{_<_, _≤_, _^_};
 ghost use Rattle.base.specs.Moments.{clockMax, isDeadline};
 ghost use Rattle.timers.specs.Timer5.{t5New, t5Period, t5At, t5Con, t5Cnt, t5ConWritten, t5PrdWritten};
 
+#[repr(C)]
 pub struct T5 {
     pub next: u64,
     pub pending: u64,

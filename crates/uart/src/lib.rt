@@ -43,6 +43,7 @@ ghost use Rattle.uart.specs.Uart.{
   uartWhole,
 };
 
+#[repr(C)]
 pub struct Uart {
     // when the queue's first byte has arrived
     pub next: u64,
