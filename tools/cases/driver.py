@@ -154,5 +154,30 @@ def stored(seed):
     return [*made, *vectors(), push(0, "key", 3, 1)[:13]]
 
 
+def waiting(seed):
+    """A short input for the script: 01's worked example, actions of every kind in and out of order, a full script and the push that it refuses, then scenes, and a broken record."""
+    rng = random.Random(f"driver waiting {seed}")
+    run = board.Run(rng, RATE, blocking=False)
+    made = [*vectors()]
+    for line in board.receiver(rng):
+        made += of_call(line)
+    for turn in range(3):
+        for k in range(120 if turn < 2 else 258):
+            kind = rng.choice(list(ACTIONS))
+            fields = {"key": (rng.randrange(42), k & 1), "enc": (rng.randrange(8), rng.getrandbits(32)), "adc": (rng.randrange(17), rng.getrandbits(16)), "midi": (rng.randrange(256),), "vel": (rng.randrange(256),), "pressure": (rng.randrange(42), rng.randrange(256))}[kind]
+            made.append(push(rng.choice([0, 100 + k, rng.randrange(300_000), turn * 100_000]), kind, *fields))
+            if k % 9 == 8 and turn < 2:
+                made.append(record(0x103, (rng.choice([0, 1, 76_800, rng.randrange(20_000)]), 8)))
+        for cycles in (0, 1, 76_800, 100_000, 300_000, 76_800, 76_800):
+            made.append(record(0x103, (cycles, 8)))
+    for kind in [k for k in board.SCENES if k not in WITHOUT]:
+        for line in board.SCENES[kind](run):
+            made += of_call(line)
+    made.append(push(board.NEVER, "midi", 1))
+    for line in board.full_script(run):
+        made += of_call(line)
+    return [*made, *vectors(), record(7, (5, 8), (3000, 4)), *vectors()]
+
+
 if __name__ == "__main__":
     sys.stdout.buffer.write(b"".join(records(int(sys.argv[1]))))

@@ -14,7 +14,7 @@ SAMPLE = re.compile(rb"( *read +0*13104 *= |R 00013104 )([0-9a-f]{8})(.*)")
 
 
 class Calls:
-    name = "calls"
+    name = crate = "calls"
 
     def parts(self, seed):
         """The board's scenes, then some of the port's."""
@@ -35,7 +35,7 @@ class Calls:
 
 
 class Driver:
-    name = "driver"
+    name = crate = "driver"
 
     def parts(self, seed):
         return driver.records(seed)
@@ -51,6 +51,15 @@ class Driver:
 
     def answered(self, parts):
         return range(len(parts))
+
+
+class Entries(Driver):
+    """The driver's records, on the program whose script is lent as entries."""
+
+    crate = "by_entries"
+
+    def stored(self, seed):
+        return driver.waiting(seed)
 
 
 def run(command, text):

@@ -5,6 +5,7 @@ mod port;
 /// Answers each line by both. What differs is written. Counted apart: a reading of a pressed row, which may differ by one, and a name whose octave overflows the original's 32 bits
 /// (docs/DIFFERENCES.md). Exit status 1 where any other answer differs, or a field of the record does not lie where the library has it.
 fn main() {
+    board::FOLLOWED.store(true, Relaxed);
     for fault in fm1::layout::faults() {
         println!("layout: {fault}");
     }

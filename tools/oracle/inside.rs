@@ -66,6 +66,15 @@ pub mod inside {
         p.spi2_next
     }
 
+    /// A ramp's force at a moment; forces by their bits.
+    pub fn force(from: u32, to: u32, t0: u64, dur: u64, now: u64) -> u32 {
+        Ramp { from: f32::from_bits(from), to: f32::from_bits(to), t0, dur }.at(now).to_bits()
+    }
+
+    pub fn vel_force(vel: u8) -> u32 {
+        super::vel_force(vel).to_bits()
+    }
+
     pub fn next_event(p: &Periph) -> u64 {
         p.next_event()
     }

@@ -1,6 +1,6 @@
 //! The original as judge. Reads the lines that the port's programs read and writes the lines that they must write.
 //!
-//!     oracle asks   < lines     names, times and records, a line each: see crates/asks
+//!     oracle asks   < lines     names, times, forces and records, a line each: see crates/asks
 //!     oracle calls  < lines     the board's calls and the port's, a line each: see crates/calls
 //!     oracle driver < records   document 01's driver
 //!     oracle ramps              ms_cycles at every permitted rate, against 01's whole numbers
@@ -17,6 +17,7 @@ mod words;
 
 use periph::inside;
 use std::io::{self, BufRead, BufWriter, Read, Write};
+use std::sync::atomic::Ordering::Relaxed;
 use words::{bytes_of, decimal, number};
 
 #[derive(Clone, Copy, PartialEq, Eq, Debug)]
@@ -34,6 +35,7 @@ fn main() {
             lines(|words| calls::answer(&mut on, words))
         }
         ["calls", mode @ ("near" | "check")] => {
+            board::FOLLOWED.store(true, Relaxed);
             let (mut on, mut n) = (calls::On::new(), 0);
             each_line(|line, words| {
                 n += 1;
@@ -46,6 +48,7 @@ fn main() {
             driver::run(&input(), |line, _| writeln!(out, "{line}").unwrap())
         }
         ["driver", mode @ ("near" | "check")] => {
+            board::FOLLOWED.store(true, Relaxed);
             let mut n = 0;
             driver::run(&input(), |line, board| {
                 n += 1;
@@ -54,7 +57,7 @@ fn main() {
         }
         ["ramps"] => ramps(),
         _ => {
-            eprintln!("usage: oracle asks|panels < lines | oracle calls [near|check] < lines | oracle driver [near|check] < records | oracle ramps");
+            eprintln!("usage: oracle asks < lines | oracle calls [near|check] < lines | oracle driver [near|check] < records | oracle ramps");
             std::process::exit(2);
         }
     }
@@ -122,6 +125,8 @@ fn ask(words: &[&str]) -> Option<String> {
         ("spi2of", 4) => inside::spi2(hz(n32(3)?)?, bytes(n32(1)?)?, baud(n32(2)?)?),
         ("record", 3) => return Some(records::line(&bytes_of(words[1])?, n(2)?)),
         ("wdt", 2) => p33::P33::wdt_ms(n(1).and_then(|v| u8::try_from(v).ok())?),
+        ("velocity", 2) => inside::vel_force(n(1).and_then(|v| u8::try_from(v).ok())?) as u64,
+        ("force", 6) => inside::force(bits(n32(1)?)?, bits(n32(2)?)?, n(3).filter(|&t0| t0 <= 1 << 53)?, n(4).filter(|&dur| dur <= 16_000_000)?, n(5)?) as u64,
         _ => return None,
     };
     Some(answer.to_string())
@@ -138,6 +143,11 @@ fn bytes(n: u32) -> Option<u32> {
 
 fn baud(n: u32) -> Option<u32> {
     (n <= 16_383).then_some(n)
+}
+
+/// The bits of a force from 0 to 1.
+fn bits(n: u32) -> Option<u32> {
+    (n <= 0x3f80_0000).then_some(n)
 }
 
 /// The outer `None`: no such thing. The inner: bytes that are no text, which name nothing.

@@ -140,9 +140,8 @@ pub struct Board {
 }
 
 impl Board {
-    /// A board at `hz`. A debug build first holds the record's layout against the library's.
+    /// A board at `hz`.
     pub fn new(hz: u64) -> Answer<Board> {
-        debug_assert!(layout::faults().is_empty());
         let (queue, script) = (Box::new([0; sys::QUEUE_BYTES]), Box::new([0; sys::SCRIPT_WORDS]));
         let (mut icfg, mut icfg1) = ([0; sys::BANK_WORDS], [0; sys::BANK_WORDS]);
         let made = unsafe { sys::fm1_new(hz, queue.as_ptr(), queue.len(), script.as_ptr(), script.len(), icfg.as_mut_ptr(), icfg.len(), icfg1.as_mut_ptr(), icfg1.len()) };

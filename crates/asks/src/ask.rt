@@ -1,4 +1,5 @@
 // What a line asks, and its answer. Words are read in order; which question it is goes by their number and the first.
+use crate::force;
 use crate::record::put_record;
 use names::Id;
 use text::Number;
@@ -37,6 +38,9 @@ pub fn put_answer(out: &mut [u8], at: usize, line: &[u8]) -> usize {
 
 fn ask(line: &[u8]) -> Answer {
     let verb = word(line, 0);
+    if is(line, verb, b"force") {
+        return force::of_ramp(line, verb.to);
+    }
     let one = word(line, verb.to);
     let two = word(line, one.to);
     let three = word(line, two.to);
@@ -68,6 +72,9 @@ fn of_one(line: &[u8], verb: Span, one: Span) -> Answer {
     };
     if is(line, verb, b"wdt") {
         return watchdog(n);
+    }
+    if is(line, verb, b"velocity") {
+        return force::of_velocity(n);
     }
     let hz = rate(n);
     if hz == 0 {

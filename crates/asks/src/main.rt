@@ -1,4 +1,4 @@
-// Names, times and records as lines of text: each line is answered with itself, ` = ` and the result, `?` where it asks nothing that
+// Names, times, forces and records as lines of text: each line is answered with itself, ` = ` and the result, `?` where it asks nothing that
 // is known here or lies outside 01's domain. The original answers the same lines (tools/oracle), so the two outputs must be
 // equal to the byte: crates/asks/stdout is the original's, tools/compare runs both on more.
 //
@@ -15,11 +15,14 @@
 //     press HZ, release HZ, pressure HZ   the lengths of a key's ramps
 //     spi1of BYTES BAUD HZ, spi2of BYTES BAUD HZ   cycles of a transfer
 //     wdt CON                         the watchdog's milliseconds for a control byte
+//     velocity VEL                    the force that a key lands at, as the f32's bits
+//     force FROM TO T0 DUR NOW        the force of a ramp at a moment; forces by their bits
 //     record HEX AT                   the record at that offset of some bytes: time, action and where the next begins
 //
 // Words are separated by spaces, other numbers are decimal. Empty lines and lines that begin with `#` answer nothing. A line of more
 // than 4,096 bytes is answered `? = ?`.
 mod ask;
+mod force;
 mod record;
 
 use text::first;
@@ -36,10 +39,7 @@ fn main() {
     let mut input = [0u8; 65536];
     let mut line = [0u8; 4097];
     let mut out = [0u8; 65536];
-    let mut went = Went {
-        line: 0,
-        out: 0,
-    };
+    let mut went = Went { line: 0, out: 0 };
     let mut turns = u64::MAX;
     while 0 < turns {
         turns = turns - 1;
@@ -68,10 +68,7 @@ fn chunk(input: &[u8], line: &mut [u8], out: &mut [u8], went: Went) -> Went {
             n = put(line, n, b);
         }
     }
-    Went {
-        line: n,
-        out: to,
-    }
+    Went { line: n, out: to }
 }
 
 // The line is answered; what waits is written out before there could be no room for the next answer.

@@ -1,51 +1,113 @@
-// The lines: a name, what was given, ` = ` and the number that came back. Each is written out at once.
+// Lines: where they end, their names and numbers, and how they are written again.
+use text::Number;
+use text::Span;
+use text::decimal_in;
 use text::first;
+use text::is;
 use text::put;
 use text::put_decimal;
 use text::put_text;
+use text::word;
 
-// A line is at most so long.
-const LINE: usize = 128;
+// Room for a line with its answer.
+const LINE: usize = 256;
 
-// The number, and the line's end.
-fn ended(line: &mut [u8], to: usize, number: u32) {
-    let equals = put_text(line, to, b" = ");
-    let said = put_decimal(line, equals, number as u64);
-    let n = put(line, said, b'\n');
+// A line's numbers, in their order.
+pub struct Numbers {
+    pub a: u64,
+    pub b: u64,
+    pub c: u64,
+    pub d: u64,
+    pub e: u64,
+}
+
+// What came back from `ms`, the step and the push.
+pub struct Three {
+    pub ms: u32,
+    pub step: u32,
+    pub push: u32,
+}
+
+// A word's bytes.
+pub fn word_of(line: &[u8], w: Span) -> &[u8] {
+    between(line, w.from, w.to)
+}
+
+pub fn between(s: &[u8], from: usize, to: usize) -> &[u8] {
+    if from <= to {
+        if to <= s.len() {
+            return &s[from..to];
+        }
+    }
+    &s[..0]
+}
+
+// Which of the list's words it is, counted from 0; `most` where it is none of so many.
+pub fn place_in(list: &[u8], most: usize, name: &[u8]) -> usize {
+    let mut k: usize = 0;
+    let mut at: usize = 0;
+    while k < most {
+        let w = word(list, at);
+        if is(list, w, name) {
+            return k;
+        }
+        at = w.to;
+        k = k + 1;
+    }
+    k
+}
+
+pub fn numbers_of(line: &[u8], at: usize) -> Numbers {
+    let one = word(line, at);
+    let two = word(line, one.to);
+    let three = word(line, two.to);
+    let four = word(line, three.to);
+    let five = word(line, four.to);
+    Numbers {
+        a: number(line, one),
+        b: number(line, two),
+        c: number(line, three),
+        d: number(line, four),
+        e: number(line, five),
+    }
+}
+
+fn number(line: &[u8], w: Span) -> u64 {
+    let Number::Is(n) = decimal_in(line, w) else {
+        return 0;
+    };
+    n
+}
+
+// ---- writing
+
+fn ended(line: &mut [u8], to: usize) {
+    let n = put(line, to, b'\n');
     io::write_all(libc::STDOUT_FILENO, first(line, n));
 }
 
-fn given(line: &mut [u8], to: usize, v: u64) -> usize {
-    let apart = put(line, to, b' ');
-    put_decimal(line, apart, v)
+pub fn told(line: &[u8]) {
+    let mut out = [0u8; LINE];
+    let at = put_text(&mut out, 0, line);
+    ended(&mut out, at);
 }
 
-pub fn told(name: &[u8], number: u32) {
-    let mut line = [0u8; LINE];
-    let at = put_text(&mut line, 0, name);
-    ended(&mut line, at, number);
+pub fn told_one(line: &[u8], n: u32) {
+    let mut out = [0u8; LINE];
+    let at = put_text(&mut out, 0, line);
+    let equals = put_text(&mut out, at, b" = ");
+    let to = put_decimal(&mut out, equals, n as u64);
+    ended(&mut out, to);
 }
 
-pub fn told_one(name: &[u8], v: u64, number: u32) {
-    let mut line = [0u8; LINE];
-    let named = put_text(&mut line, 0, name);
-    let at = given(&mut line, named, v);
-    ended(&mut line, at, number);
-}
-
-pub fn told_two(name: &[u8], v: u64, w: u64, number: u32) {
-    let mut line = [0u8; LINE];
-    let named = put_text(&mut line, 0, name);
-    let one = given(&mut line, named, v);
-    let at = given(&mut line, one, w);
-    ended(&mut line, at, number);
-}
-
-pub fn told_three(name: &[u8], u: u64, v: u64, w: u64, number: u32) {
-    let mut line = [0u8; LINE];
-    let named = put_text(&mut line, 0, name);
-    let one = given(&mut line, named, u);
-    let two = given(&mut line, one, v);
-    let at = given(&mut line, two, w);
-    ended(&mut line, at, number);
+pub fn told_three(line: &[u8], n: Three) {
+    let mut out = [0u8; LINE];
+    let at = put_text(&mut out, 0, line);
+    let equals = put_text(&mut out, at, b" = ");
+    let one = put_decimal(&mut out, equals, n.ms as u64);
+    let apart = put(&mut out, one, b' ');
+    let two = put_decimal(&mut out, apart, n.step as u64);
+    let behind = put(&mut out, two, b' ');
+    let three = put_decimal(&mut out, behind, n.push as u64);
+    ended(&mut out, three);
 }

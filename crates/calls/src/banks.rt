@@ -1,16 +1,16 @@
 // Registers: a read and a write.
-use crate::answers::Answer;
-use crate::answers::HEX;
-use crate::answers::HEX_SKIPPING;
-use crate::answers::NONE;
-use crate::answers::NONE_SKIPPING;
-use crate::answers::REFUSED;
-use crate::answers::flag;
-use crate::answers::two;
 use crate::boards::Boarded;
 use regs::Value;
 use state::Board;
 use state::Clock;
+use telling::Answer;
+use telling::HEX;
+use telling::HEX_SKIPPING;
+use telling::NONE;
+use telling::NONE_SKIPPING;
+use telling::REFUSED;
+use telling::flag;
+use telling::two;
 
 pub fn write(
     b: Board,

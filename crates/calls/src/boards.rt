@@ -1,17 +1,4 @@
 // The board's calls. The board's lent memory goes along: the bytes behind the jack, the script as words, the banks; `lights` takes the LEDs' times.
-use crate::answers::Answer;
-use crate::asks::APPLY;
-use crate::asks::Ask;
-use crate::asks::CYCLE_TICKS;
-use crate::asks::IDLE;
-use crate::asks::LED;
-use crate::asks::PUSH;
-use crate::asks::READ;
-use crate::asks::RESET;
-use crate::asks::SPI2_PENDING;
-use crate::asks::STEP;
-use crate::asks::TICK;
-use crate::asks::WRITE;
 use crate::banks::read;
 use crate::banks::write;
 use crate::deeds::deed;
@@ -20,7 +7,20 @@ use crate::running::lit;
 use crate::running::pushed;
 use crate::running::stepped;
 use crate::running::ticked;
+use asking::APPLY;
+use asking::Ask;
+use asking::CYCLE_TICKS;
+use asking::IDLE;
+use asking::LED;
+use asking::PUSH;
+use asking::READ;
+use asking::RESET;
+use asking::SPI2_PENDING;
+use asking::STEP;
+use asking::TICK;
+use asking::WRITE;
 use state::Board;
+use telling::Answer;
 
 pub struct Boarded {
     pub board: Board,

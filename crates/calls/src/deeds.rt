@@ -1,29 +1,31 @@
 // Calls that answer the board and the number of a refusal: settings, deadlines, SPI, idle time, an action, a reset, a new board.
-use crate::answers::Answer;
-use crate::answers::NUMBER;
-use crate::answers::PAIR;
-use crate::answers::number;
-use crate::answers::pair;
-use crate::asks::APPLY;
-use crate::asks::Ask;
-use crate::asks::CYCLE_TICKS;
-use crate::asks::EXC;
-use crate::asks::IDLE;
-use crate::asks::IN_ISR;
-use crate::asks::NEW;
-use crate::asks::RESET;
-use crate::asks::ROOM_CAP;
-use crate::asks::SHIFT;
-use crate::asks::SKIP_IDLE;
-use crate::asks::SPI1;
-use crate::asks::SPI2;
-use crate::asks::SPI2_PENDING;
-use crate::asks::USB;
-use crate::asks::WDT;
 use crate::boards::Boarded;
 use crate::running::action;
+use asking::APPLY;
+use asking::Ask;
+use asking::CYCLE_TICKS;
+use asking::EXC;
+use asking::IDLE;
+use asking::IN_ISR;
+use asking::NEW;
+use asking::RESET;
+use asking::ROOM_CAP;
+use asking::SHIFT;
+use asking::SKIP_IDLE;
+use asking::SPI1;
+use asking::SPI1_OFF;
+use asking::SPI2;
+use asking::USB;
+use asking::WDT;
 use board::Done;
+use spi::Spi;
 use state::Board;
+use state::Clock;
+use telling::Answer;
+use telling::NUMBER;
+use telling::PAIR;
+use telling::number;
+use telling::pair;
 
 pub fn deed(
     b: Board,
@@ -36,7 +38,7 @@ pub fn deed(
     let after = done.board;
     Boarded {
         board: after,
-        answer: told(ask.call, done.refused, after),
+        answer: told(ask.call, done.refused, after.chip.spi, after.chip.clock),
     }
 }
 
@@ -81,21 +83,33 @@ fn did(b: Board, ask: Ask) -> Done {
         WDT => board::set_wdt(b, ask.n),
         SPI1 => board::spi1_start(b, ask.a, ask.v, ask.l == 1),
         SPI2 => board::spi2_start(b, ask.a, ask.v, ask.l == 1),
-        CYCLE_TICKS => board::set_cycle_ticks(b, ask.n),
-        ROOM_CAP => board::set_room_cap(b, ask.n),
-        SKIP_IDLE => board::set_skip_idle(b, ask.n == 1),
-        IN_ISR => board::set_in_isr(b, ask.n == 1),
-        EXC => board::set_exc_pending(b, ask.n == 1),
-        SPI2_PENDING => board::set_spi2_pending(b, ask.n == 1),
-        _ => board::spi1_irq_off(b),
+        SPI1_OFF => board::spi1_irq_off(b),
+        _ => set(b, k, ask.n),
+    }
+}
+
+fn set(b: Board, call: usize, n: u64) -> Done {
+    match call {
+        CYCLE_TICKS => board::set_cycle_ticks(b, n),
+        ROOM_CAP => board::set_room_cap(b, n),
+        _ => set_flag(b, call, n == 1),
+    }
+}
+
+fn set_flag(b: Board, call: usize, on: bool) -> Done {
+    match call {
+        SKIP_IDLE => board::set_skip_idle(b, on),
+        IN_ISR => board::set_in_isr(b, on),
+        EXC => board::set_exc_pending(b, on),
+        _ => board::set_spi2_pending(b, on),
     }
 }
 
 // SPI1 and idle time answer how far they went; a deadline, an action and a new board the refusal's number itself; the rest 0.
-fn told(call: usize, refused: u32, b: Board) -> Answer {
+fn told(call: usize, refused: u32, s: Spi, clock: Clock) -> Answer {
     match call {
-        SPI1 => pair(refused, PAIR, b.chip.spi.spi1_done_at, b.chip.spi.spi1_wire),
-        IDLE => pair(refused, PAIR, b.chip.clock.cycles, b.chip.clock.skipped),
+        SPI1 => pair(refused, PAIR, s.spi1_done_at, s.spi1_wire),
+        IDLE => pair(refused, PAIR, clock.cycles, clock.skipped),
         USB | WDT | APPLY | NEW => number(refused as u64),
         _ => pair(refused, NUMBER, 0, 0),
     }

@@ -1,11 +1,13 @@
 // Standard input, a line at a time.
+use asking::LINE;
+use text::Span;
+use text::bytes_of;
 use text::first;
-use text::put;
+use text::put_text;
+ghost use Prim.Native.Nat.{_<_};
 
-// Room for what is read or written at once, and for a line: a byte more than a line may have.
+// Room for what is read or written at once.
 pub const BUFFER: usize = 65536;
-
-pub const LINE: usize = 4097;
 
 // Where the bytes that were read go on, how long the line is, whether it has ended, and whether the input has.
 pub struct Reader {
@@ -24,6 +26,17 @@ pub fn new() -> Reader {
         whole: false,
         over: false,
     }
+}
+
+// The turns that are left after one more: none at the input's end.
+pub fn left(turns: u64, over: bool) -> u64
+    requires { ⌜ 0 < turns ⌝ }
+    ensures { λ r. ⌜ r < turns ⌝ }
+{
+    if over {
+        return 0;
+    }
+    turns - 1
 }
 
 // The next line, at the front of `line`; the last one may have no end. A line that fills its room is too long.
@@ -57,22 +70,38 @@ fn filled(input: &mut [u8; BUFFER], mut r: Reader) -> Reader {
 }
 
 // The bytes up to the line's end, or all there are. A full line stays full.
-fn taken(input: &[u8; BUFFER], line: &mut [u8; LINE], mut r: Reader) -> Reader {
+fn taken(input: &[u8; BUFFER], line: &mut [u8; LINE], r: Reader) -> Reader {
     let bytes = first(input, r.got);
-    let mut i = r.at;
-    let mut n = r.len;
-    while i < bytes.len() {
-        let b = bytes[i];
-        i = i + 1;
-        if b == b'\n' {
-            r.at = i;
-            r.len = n;
-            r.whole = true;
-            return r;
-        }
-        n = put(line, n, b);
+    let end = line_end(bytes, r.at);
+    let part = Span {
+        from: r.at,
+        to: end,
+    };
+    let n = put_text(line, r.len, bytes_of(bytes, part));
+    if end < bytes.len() {
+        return went(r, end + 1, n, true);
     }
-    r.at = i;
-    r.len = n;
-    r
+    went(r, end, n, r.whole)
+}
+
+// The place of the next line feed, or of the end.
+fn line_end(bytes: &[u8], at: usize) -> usize {
+    let mut i = at;
+    while i < bytes.len() {
+        if bytes[i] == b'\n' {
+            return i;
+        }
+        i = i + 1;
+    }
+    i
+}
+
+fn went(r: Reader, at: usize, len: usize, whole: bool) -> Reader {
+    Reader {
+        at: at,
+        got: r.got,
+        len: len,
+        whole: whole,
+        over: r.over,
+    }
 }

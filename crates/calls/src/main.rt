@@ -30,21 +30,19 @@
 // Actions are `key ID DOWN`, `enc ENC CLICKS`, `adc CH VALUE`, `midi B`, `vel VEL` and `pressure ID VEL`. Addresses and values are hex, other numbers
 // decimal. A call that is refused answers `E` and the refusal's number, where its result is not that number itself. Empty lines and lines that
 // begin with `#` answer nothing. A line of more than 4,096 bytes is answered `? = ?`.
-mod answers;
-mod asks;
 mod banks;
 mod boards;
 mod deeds;
 mod lines;
 mod looks;
-mod names_of;
-mod ports;
 mod running;
-mod words_in;
 mod written;
 
-use asks::asked;
+use asking::LINE;
+use asking::asked;
 use boards::on_board;
+use lines::BUFFER;
+use lines::left;
 use lines::next;
 use p33::P33;
 use ports::Ports;
@@ -55,9 +53,9 @@ use written::put_line;
 const RATE: u64 = 240_000_000;
 
 fn main() {
-    let mut input = [0u8; lines::BUFFER];
-    let mut line = [0u8; lines::LINE];
-    let mut out = [0u8; lines::BUFFER];
+    let mut input = [0u8; BUFFER];
+    let mut line = [0u8; LINE];
+    let mut out = [0u8; BUFFER];
     let mut regs = [0u8; 2048];
     let mut aside = [0u8; 2048];
     let mut queue = [0u8; 3125];
@@ -82,7 +80,6 @@ fn main() {
     let mut to: usize = 0;
     let mut turns = u64::MAX;
     while 0 < turns {
-        turns = turns - 1;
         reader = next(&mut input, &mut line, reader);
         let ask = asked(&line, reader.len);
         let c = on_board(
@@ -100,9 +97,7 @@ fn main() {
         ports = p.ports;
         let said = p.answer;
         to = put_line(&mut out, to, &line, reader.len, said, &lights);
-        if reader.over {
-            turns = 0;
-        }
+        turns = left(turns, reader.over);
     }
     flush(&out, to);
 }

@@ -1,17 +1,17 @@
 // The step, the script and the actions, a tick, the LEDs.
-use crate::answers::Answer;
-use crate::answers::LIGHTS;
-use crate::answers::REFUSED;
-use crate::answers::STEPPED;
-use crate::answers::flag;
-use crate::answers::number;
-use crate::answers::pair;
-use crate::answers::two;
-use crate::asks::Ask;
 use crate::boards::Boarded;
+use asking::Ask;
 use audio::Half;
 use records::Action;
 use state::Board;
+use telling::Answer;
+use telling::LIGHTS;
+use telling::REFUSED;
+use telling::STEPPED;
+use telling::flag;
+use telling::number;
+use telling::pair;
+use telling::two;
 use uart::Byte;
 
 pub fn stepped(b: Board, n: u64, queue: &mut [u8; 3125], script: &[u64; 512]) -> Boarded {

@@ -1,3 +1,2 @@
-pub mod Edge
+pub mod Flags
 pub mod Marks
-pub mod Ports

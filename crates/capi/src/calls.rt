@@ -1,13 +1,4 @@
 // The board's calls, each by the name that it has inside with `fm1_` before it, and the names of keys and encoders. Lent memory crosses as a pointer and a length.
-use crate::Advanced;
-use crate::Chosen;
-use crate::Reading;
-use crate::Said;
-use crate::of_chosen;
-use crate::of_id;
-use crate::of_pushing;
-use crate::of_reading;
-use crate::of_stepped;
 use board::Done;
 use board::Flag;
 use board::Lit;
@@ -15,6 +6,15 @@ use board::Number;
 use board::STATE;
 use board::Ticked;
 use board::Written;
+use edge::Advanced;
+use edge::Chosen;
+use edge::Reading;
+use edge::Said;
+use edge::of_chosen;
+use edge::of_id;
+use edge::of_pushing;
+use edge::of_reading;
+use edge::of_stepped;
 use script::action_of;
 use state::Board;
 ghost use mathlib.Core.Path.{_≡_};
@@ -64,14 +64,8 @@ ghost use Rattle.names.specs.Names.{keyIdOf, encIdOf};
 ghost use Rattle.script.specs.Words.{wordOf, actionOf, wordsAt};
 ghost use Rattle.step.specs.Step.{ran, stepOf, pushedOf};
 ghost use Rattle.words.specs.Words.{placesOf, placesIn, spotIn, storedWords};
-ghost use Rattle.capi.specs.Edge.{
-  ofPushing,
-  ofReading,
-  ofStepped,
-  ofChosen,
-  ofId,
-  flagged,
-};
+ghost use Rattle.edge.specs.Edge.{ofPushing, ofReading, ofStepped, ofChosen, ofId};
+ghost use Rattle.capi.specs.Flags.{flagged};
 
 // How many entries so many words are.
 fn places(n: usize) -> usize

@@ -1,15 +1,18 @@
 // The P33 port's calls. Its record crosses with the event as a number: 0 none, 1 the watchdog's control written, 2 the same with a feed, 3 a reset; any other number is read as none.
-use crate::Port;
-use crate::PortAnswered;
-use crate::Said;
-use crate::told;
 use base::when;
 use board::SIZE;
 use board::STATE;
-use p33::Event;
+use edge::Port;
+use edge::PortAnswered;
+use edge::Said;
+use edge::ports::of_compared;
+use edge::ports::of_port_done;
+use edge::ports::of_register;
+use edge::ports::of_taken;
+use edge::ports::port_in;
+use edge::told;
 use p33::P33;
 use p33::REGS;
-ghost use mathlib.Core.Bool.{cond};
 ghost use mathlib.Core.Path.{_≡_};
 ghost use Rattle.base.specs.Bits.{whenOf};
 ghost use Rattle.times.specs.Watchdog.{wdtMs};
@@ -26,115 +29,8 @@ ghost use Rattle.p33.specs.P33.{
   writeIn,
 };
 ghost use Rattle.p33.specs.Sameness.{sameSnap, sameOf};
-ghost use Rattle.capi.specs.Ports.{
-  numberOf,
-  eventOf,
-  portIn,
-  portOut,
-  ofPortDone,
-  ofTaken,
-  ofRegister,
-  ofCompared,
-  registerOf,
-};
-
-fn fed_number(fed: bool) -> u32
-    ensures { λ r. ⌜ r ≡ cond fed 2 1 ⌝ }
-{
-    if fed {
-        return 2;
-    }
-    1
-}
-
-fn number_of(event: Event) -> u32
-    ensures { λ r. ⌜ r ≡ numberOf event ⌝ }
-{
-    match event {
-        Event::None => 0,
-        Event::Wdt { fed } => fed_number(fed),
-        Event::Reset => 3,
-    }
-}
-
-fn event_of(n: u32) -> Event
-    ensures { λ r. ⌜ r ≡ eventOf n ⌝ }
-{
-    if n == 1 {
-        return Event::Wdt { fed: false };
-    }
-    if n == 2 {
-        return Event::Wdt { fed: true };
-    }
-    if n == 3 {
-        return Event::Reset;
-    }
-    Event::None
-}
-
-fn port_in(p: Port) -> P33
-    ensures { λ r. ⌜ r ≡ portIn p ⌝ }
-{
-    let event = event_of(p.event);
-    P33 {
-        con: p.con,
-        dat: p.dat,
-        step: p.step,
-        cmd: p.cmd,
-        addr: p.addr,
-        changed: p.changed,
-        event: event,
-    }
-}
-
-fn port_out(p: P33) -> Port
-    ensures { λ r. ⌜ r ≡ portOut p ⌝ }
-{
-    let event = p.event;
-    Port {
-        changed: p.changed,
-        con: p.con,
-        dat: p.dat,
-        event: number_of(event),
-        addr: p.addr,
-        step: p.step,
-        cmd: p.cmd,
-    }
-}
-
-fn of_port_done(d: p33::Done) -> PortAnswered
-    ensures { λ r. ⌜ r ≡ ofPortDone d ⌝ }
-{
-    let p = d.port;
-    PortAnswered {
-        port: port_out(p),
-        said: told(0, d.refused as u32, 0),
-    }
-}
-
-fn of_taken(t: p33::Taken) -> PortAnswered
-    ensures { λ r. ⌜ r ≡ ofTaken t ⌝ }
-{
-    let p = t.port;
-    let event = t.event;
-    let n = number_of(event);
-    PortAnswered {
-        port: port_out(p),
-        said: told(n as u64, 0, when(n != 0, 1)),
-    }
-}
-
-fn of_register(v: p33::Value) -> Said
-    ensures { λ r. ⌜ r ≡ ofRegister v ⌝ }
-{
-    told(v.value as u64, v.refused as u32, 0)
-}
-
-fn of_compared(c: p33::Compared) -> Said
-    ensures { λ r. ⌜ r ≡ ofCompared c ⌝ }
-{
-    told(0, c.refused as u32, when(c.same, 1))
-}
+ghost use Rattle.edge.specs.Ports.{portIn, ofPortDone, ofTaken, ofCompared};
+ghost use Rattle.capi.specs.Flags.{registerOf};
 
 // A port at power-on; its memory is zeroed. SIZE.
 #[no_mangle]

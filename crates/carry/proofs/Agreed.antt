@@ -1,23 +1,23 @@
 -- The script's front stays the one that the record tells of: through a push, a read, a write and a step.
 use mathlib.Core.Path.{_≡_, refl, sym, _∙_, ap, subst}
-use mathlib.Core.Bool.{Bool, true, false, cond, _||_, true≢false, false≢true}
+use mathlib.Core.Bool.{Bool, true, false, cond, _||_, false≢true}
 use mathlib.Core.List.{List}
-use Prim.Native.Nat.{ℕ, zero, suc, _+_, _-_, _*_, _/_, _%_, _≤_, _<_}
+use Prim.Native.Nat.{ℕ, zero, suc, _+_, _*_, _/_, _≤_, _<_}
 use native.Mathlib.Omega.{arith}
-use borrow.Author.Tests.{eqb-true, eqb-false, eq-eqb, ne-eqb, ltb-true, ltb-false}
+use borrow.Author.Tests.{eqb-true, eqb-false, eq-eqb, ltb-true, ltb-false}
 use lib.Dec.{eqb, ltb}
 use lib.ListN.{length, getD, set, length-set}
 use lib.Seq.{getD-set-same, getD-set-other}
 use Rattle.records.specs.declared.Action.{Action}
 use Rattle.records.specs.declared.Action.the-variants.{Key, Enc, Adc, Midi, KeyVel, Pressure}
-use Rattle.regs.specs.Reads.{polledOf, pollsAt}
+use Rattle.regs.specs.Reads.{polledOf}
 use Rattle.regs.specs.Writes.{adcWritten, chipWritten, boardWritten}
 use Rattle.script.specs.Entries.{shown, agreesOf}
-use Rattle.script.specs.Script.{entries, ScriptOk, spotOf, pushedOf as ringPushed, lookedOf, takenOf, nextPlace}
+use Rattle.script.specs.Script.{entries, ScriptOk, spotOf, lookedOf, takenOf}
 use Rattle.script.specs.declared.Entry.{Entry}
 use Rattle.script.specs.declared.Script.{Script}
 use Rattle.state.specs.Whole.{Whole}
-use Rattle.state.specs.With.{movedTo, withChip}
+use Rattle.state.specs.With.{movedTo}
 use Rattle.state.specs.declared.Board.{Board}
 use Rattle.state.specs.declared.Chip.{Chip}
 use Rattle.step.specs.Apply.{applyOf, actedOn}

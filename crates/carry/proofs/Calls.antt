@@ -1,27 +1,24 @@
 -- What a whole board and its own memory leave of the public calls' tests.
-use mathlib.Core.Path.{_≡_, refl, sym, _∙_, ap, subst}
-use mathlib.Core.Bool.{Bool, true, false, cond, not, _&&_}
+use mathlib.Core.Path.{_≡_, refl}
+use mathlib.Core.Bool.{Bool, true, false, cond}
 use mathlib.Core.List.{List}
-use Prim.Native.Nat.{ℕ, _+_, _*_, _^_, _≤_, _<_}
+use Prim.Native.Nat.{ℕ, _+_, _^_, _≤_, _<_}
 use native.Mathlib.Omega.{arith}
 use borrow.Author.Tests.{leb-false, ltb-false}
-use lib.Dec.{eqb, leb, ltb}
-use lib.ListN.{length}
+use lib.Dec.{leb, ltb}
 use Rattle.base.specs.Moments.{clockMax}
 use Rattle.board.specs.Answers.{sizeOf}
 use Rattle.board.specs.Calls.{wholeRefused, banksRefused, readRefused}
 use Rattle.irq.specs.Banks.{bankWords}
 use Rattle.regs.specs.Reads.{pollsAt, polledOf}
-use Rattle.script.specs.Entries.{agreesOf}
-use Rattle.script.specs.Script.{entries, fullOf}
+use Rattle.script.specs.Script.{fullOf, spotOf}
 use Rattle.state.proofs.Facts.{whole-test}
-use Rattle.state.specs.State.{boardWhole}
 use Rattle.state.specs.Whole.{Typed, Whole}
 use Rattle.state.specs.declared.Board.{Board}
 use Rattle.step.specs.Stages.{nowOf}
-use Rattle.step.specs.Step.{frontPlace, outBytes, stepRefusal, pushRefusal}
+use Rattle.step.specs.Step.{frontPlace, outBytes, stepRefusal, pushRefusal, placedOf, morePushed}
 use Rattle.uart.specs.Uart.{queueBytes}
-use Rattle.words.specs.Words.{placesIn, shownIn}
+use Rattle.words.specs.Words.{shownIn, spotIn}
 use Rattle.carry.specs.Carry.{Agrees, numberOf}
 
 pub push-number : (b : Board) → Typed b → (ws : List ℕ) → Whole b → Agrees b ws → pushRefusal b (shownIn ws (frontPlace b)) ≡ cond (fullOf (b .chip .script)) 5 0
@@ -51,3 +48,14 @@ granted dropped now cycles e = go (leb (2 ^ 62) dropped) (ltb clockMax (now + cy
     go true y p q z = absurd (omega (arith, z))
     go false true p q z = absurd (omega (arith, z))
     go false false p q z = (leb-false (2 ^ 62) dropped p, ltb-false clockMax (now + cycles) q)
+
+-- where a push puts its entry
+module _ (b : Board) (t : Typed b) (ws : List ℕ) (w : Whole b) (a : Agrees b ws) (time : ℕ) where
+  pub spot-full : fullOf (b .chip .script) ≡ true → spotIn b ws time ≡ record { board = b; place = 0; refused = 5; ok = false }
+  unfolding placedOf
+  spot-full f = rw (push-number b t ws w a, f)
+
+  pub spot-room : fullOf (b .chip .script) ≡ false
+      → spotIn b ws time ≡ record { board = morePushed b time; place = spotOf (b .chip .script); refused = 0; ok = true }
+  unfolding placedOf
+  spot-room f = rw (push-number b t ws w a, f)

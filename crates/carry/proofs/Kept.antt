@@ -1,37 +1,33 @@
 -- What a driver knows of its board and memory stays so, whatever the record.
-use mathlib.Core.Path.{_≡_, refl, sym, _∙_, ap, subst}
+use mathlib.Core.Path.{_≡_, refl, _∙_}
 use mathlib.Core.Bool.{Bool, true, false, cond}
 use mathlib.Core.List.{List}
 use Prim.Native.Nat.{ℕ, zero, suc, _-_, _/_, _<_, _^_}
-use lib.Dec.{eqb, leb, ltb}
+use lib.Dec.{eqb, leb}
 use lib.ListN.{length, length-set}
-use borrow.Author.Tests.{eqb-true, leb-false}
+use borrow.Author.Tests.{leb-false}
 use Rattle.board.proofs.Kept.{read-call-kept, write-call-kept}
 use Rattle.board.specs.Calls.{readCall, readChip, readRefused, writeCall, writeFirst, writeSecond, banksRefused}
 use Rattle.board.specs.declared.Reading.{Reading}
 use Rattle.board.specs.declared.Written.{Written}
-use Rattle.irq.specs.Banks.{bankWritten}
 use Rattle.records.specs.declared.Action.{Action}
 use Rattle.records.specs.declared.Order.the-variants.{Read, Write, Step}
-use Rattle.records.specs.declared.RecordAt.{RecordAt}
-use Rattle.records.specs.declared.RecordAt.the-variants.{Timed, Order as Ordered, Broken, End}
-use Rattle.regs.specs.Reads.{pollsAt, polledOf}
-use Rattle.regs.specs.Writes.{firstWritten, secondWritten, boardWritten}
+use Rattle.records.specs.declared.RecordAt.the-variants.{Timed, Order as Ordered}
+use Rattle.regs.specs.Reads.{pollsAt}
+use Rattle.regs.specs.Writes.{firstWritten, secondWritten}
 use Rattle.script.specs.Script.{fullOf, entries}
 use Rattle.script.specs.Words.{wordOf, wordsAt}
 use Rattle.script.specs.declared.Entry.{Entry}
-use Rattle.script.specs.declared.Script.{Script}
-use Rattle.state.specs.Whole.{Typed, Whole}
-use Rattle.state.specs.With.{withChip}
+use Rattle.state.specs.Whole.{Typed}
 use Rattle.state.specs.declared.Board.{Board}
 use Rattle.state.specs.declared.Chip.{Chip}
 use Rattle.step.proofs.Loop.{queue-length, out-length}
 use Rattle.step.proofs.WholeKept.{push-kept, step-kept}
 use Rattle.step.specs.Step.{frontPlace, waits, begunOf, Ran, turnOf, runs, ran}
 use Rattle.words.specs.Words.{placesIn, shownIn, spotIn, storedWords}
-use Rattle.carry.specs.Carry.{Bench, benchOf, Agrees, BenchOk, pushed, stepIn, after}
+use Rattle.carry.specs.Carry.{Bench, Agrees, BenchOk, pushed, after}
 use Rattle.carry.proofs.Agreed.{step-agreed, polled-script, written-script, push-agreed}
-use Rattle.carry.proofs.Right.{spot-full, spot-room}
+use Rattle.carry.proofs.Calls.{spot-full, spot-room}
 
 -- what holds in both cases holds in either
 either : {A : Type 0} (P : A → Type 0) (t : Bool) (x y : A) → P x → P y → P (cond t x y)

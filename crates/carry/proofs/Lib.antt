@@ -1,5 +1,4 @@
 pub mod Agreed
 pub mod Calls
-pub mod Right
 pub mod Kept
 pub mod Ends

@@ -1,7 +1,7 @@
 -- Document 01's driver, a record at a time: what carrying out a record makes of all that a driver holds, and what it answers. Every record that can be carried out is one of the public calls
 -- (`readCall`, `writeCall`, `stepOf`, a push), so that the driver has no rule of its own beside the lines.
-use Prim.Native.Nat.{ℕ, _^_, _+_, _<_}
-use mathlib.Core.Bool.{Bool, true, cond}
+use Prim.Native.Nat.{ℕ, _^_, _+_}
+use mathlib.Core.Bool.{true, cond}
 use mathlib.Core.List.{List}
 use mathlib.Core.Path.{_≡_}
 use lib.Dec.{eqb, leb, ltb}
@@ -9,7 +9,6 @@ use lib.ListN.{length}
 use Rattle.base.specs.Moments.{clockMax}
 use Rattle.board.specs.Calls.{readCall, writeCall, writeFirst, writeSecond}
 use Rattle.irq.specs.Banks.{bankWords}
-use Rattle.records.specs.declared.Order.{Order}
 use Rattle.records.specs.declared.Order.the-variants.{Read, Write, Step}
 use Rattle.records.specs.declared.RecordAt.{RecordAt}
 use Rattle.records.specs.declared.RecordAt.the-variants.{Timed, Order as Ordered, Broken, End}

@@ -1,14 +1,6 @@
-// One of the driver's records carried out. `carry` does it by the public calls, for any board and any memory, and answers with all that the record's line has to say; lines are written elsewhere.
-// A driver that knows its board whole (`BenchOk`) need not have it tested for each record: it asks `glance`, which needs no more than the clock and the script's ring, then `quick`, which works on the chip
-// alone, and `carry` for what these leave. The script is held as plain words, two an entry.
-mod glances;
-mod quickly;
-
+// One of the driver's records carried out, by the public calls, for any board and any memory. It answers with all that the record's line has to say; lines are written elsewhere. A driver that
+// knows its board whole (`BenchOk`) asks `known` first. The script is held as plain words, two an entry.
 use audio::Half;
-pub use glances::Sight;
-pub use glances::glance;
-pub use quickly::Outcome;
-pub use quickly::quick;
 use records::Action;
 use records::Order;
 use records::RecordAt;
@@ -121,7 +113,8 @@ fn write(b: Board, addr: u32, value: u32, icfg: &mut [u32], icfg1: &mut [u32]) -
     }
 }
 
-fn told(s: Stepped) -> Carried
+// A step's answer as a record's.
+pub fn told(s: Stepped) -> Carried
     ensures { λ r. ⌜ r ≡ toldOf s ⌝ }
 {
     let after = s.board;

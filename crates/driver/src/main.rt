@@ -5,8 +5,8 @@ mod stream;
 
 use carry::Answer;
 use carry::carry as carry_out;
-use carry::glance;
-use carry::quick;
+use known::glance;
+use known::quick;
 use lines::put_line;
 use stream::Stream;
 use stream::fed;
@@ -66,13 +66,19 @@ fn run(
         let found = find(input, s);
         s = passed(s, found);
         let g = glance(b, found, queue, script, icfg, icfg1, acts);
-        let ring = g.ring;
-        b.chip.clock.cycles = g.clock;
-        b.chip.clock.next_due = g.due;
-        b.chip.script.at = ring.at;
-        b.chip.script.place = ring.place;
-        b.chip.script.count = ring.count;
         if g.done {
+            let ring = g.ring;
+            let adc = g.adc;
+            b.chip.clock.cycles = g.clock;
+            b.chip.clock.next_due = g.due;
+            b.chip.script.at = ring.at;
+            b.chip.script.place = ring.place;
+            b.chip.script.count = ring.count;
+            b.chip.adc.con = adc.con;
+            b.chip.adc.noise = adc.noise;
+            b.chip.adc.done = adc.done;
+            b.chip.adc.irq = adc.irq;
+            b.chip.adc.sample = adc.sample;
             let answer = g.answer;
             to = told(out, to, answer);
             if ends(answer) {

@@ -1,8 +1,5 @@
 -- The driver's lines, document 01: "Per record, a line". "Addresses, values and bytes are hex (8, 8, 2 digits), the rest decimal." One space between fields, a line feed at the end.
 use Prim.Native.Nat.{ℕ}
-use Prim.Native.Char.{code}
-use Prim.Native.String
-use Prim.Native.String.{String}
 use mathlib.Core.Bool.{Bool, cond}
 use mathlib.Core.List.{List, [], _∷_, _++_}
 use Rattle.audio.specs.declared.Half.{Half}
@@ -11,14 +8,10 @@ use Rattle.carry.specs.declared.Answer.{Answer}
 use Rattle.carry.specs.declared.Answer.the-variants.{Pushed, Read, Wrote, Stepped, Refused, Broken, Nothing}
 use Rattle.regs.specs.declared.reads.Value.{Value}
 use Rattle.regs.specs.declared.reads.Value.the-variants.{Is, None}
+use Rattle.text.specs.Ascii.{bytes}
 use Rattle.text.specs.Putting.{decimalOf, hexOf}
 use Rattle.uart.specs.declared.Byte.{Byte}
 use Rattle.uart.specs.declared.Byte.the-variants.{Got, None as NoByte}
-
--- the bytes of an ASCII text
-abbrev pub bytes : String → List ℕ
-bytes String.[] = []
-bytes (String._∷_ c text) = code c ∷ bytes text
 
 abbrev pub space : List ℕ
 space = bytes " "

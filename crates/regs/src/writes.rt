@@ -275,7 +275,8 @@ pub fn convert(mut c: Chip, ramps: Ramps, values: [u16; 16], v: u32) -> Chip
     c
 }
 
-fn first_write(bank: &mut [u32], addr: u32, v: u32)
+// The banks, each by the addresses of its own.
+pub fn first_write(bank: &mut [u32], addr: u32, v: u32)
     requires { ⌜ length (bank .now) ≡ bankWords ⌝ }
     ensures { λ _. ⌜ bank .exit .now ≡ firstWritten (bank .entry .now) addr v ⌝ }
 {
@@ -286,7 +287,7 @@ fn first_write(bank: &mut [u32], addr: u32, v: u32)
     }
 }
 
-fn second_write(bank: &mut [u32], addr: u32, v: u32)
+pub fn second_write(bank: &mut [u32], addr: u32, v: u32)
     requires { ⌜ length (bank .now) ≡ bankWords ⌝ }
     ensures { λ _. ⌜ bank .exit .now ≡ secondWritten (bank .entry .now) addr v ⌝ }
 {

@@ -2,20 +2,13 @@
 use mathlib.Core.Path.{_≡_, refl}
 use mathlib.Core.Bool.{true, false}
 use mathlib.Core.List.{List, [], _∷_}
-use Prim.Native.Nat.{ℕ}
-use Prim.Native.Char.{code}
-use Prim.Native.String.{String}
+use Rattle.text.specs.Ascii.{bytes}
 use Rattle.text.specs.Putting.{placeAfterAll, putAll, places, decimalOf, hexOf}
 use Rattle.text.specs.Spans.{runLength, wordAt, sameBytes, isText, allSpaces, isPassedOver}
 use Rattle.text.specs.Numerals.{digitOf, allDigits, valueAfter, decimalIn, hexIn}
 use Rattle.text.specs.HexBytes.{pairs, unhexedAnswer, unhexedBytes}
 use Rattle.text.specs.declared.Number.the-variants.{Is, Not}
 use Rattle.text.specs.declared.Unhexed.the-variants.{Bytes, Not as NoBytes}
-use Prim.Native.String
-
-abbrev bytes : String → List ℕ
-bytes String.[] = []
-bytes (String._∷_ c text) = code c ∷ bytes text
 
 -- the last byte finds no room
 pub cut-short : putAll (bytes "....") 2 (bytes "abc") ≡ bytes "..ab"

@@ -1,5 +1,6 @@
 -- The laws that proofs cite.
 pub mod Putter
+pub mod After
 pub mod Runs
 pub mod Sames
 pub mod Places

@@ -1,3 +1,4 @@
+pub mod Ascii
 pub mod Putting
 pub mod Spans
 pub mod Numerals

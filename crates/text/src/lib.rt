@@ -141,6 +141,21 @@ pub fn is(line: &[u8], w: Span, text: &[u8]) -> bool
     check::same(&line[from..to], text)
 }
 
+// The word's bytes; none where it is not inside the line.
+pub fn bytes_of(line: &[u8], w: Span) -> &[u8]
+    ensures { λ r. ⌜ now r ≡ bytesIn (now (line .entry)) w ⌝ }
+{
+    let from = w.from;
+    let to = w.to;
+    if to < from {
+        return &line[..0];
+    }
+    if line.len() < to {
+        return &line[..0];
+    }
+    &line[from..to]
+}
+
 // One or more decimal digits that fit 64 bits.
 pub fn decimal_in(line: &[u8], w: Span) -> Number
     ensures { λ r. ⌜ r ≡ decimalIn (bytesIn (now (line .entry)) w) ⌝ }

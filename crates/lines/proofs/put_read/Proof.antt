@@ -1,4 +1,4 @@
-use Rattle.lines.proofs.After.{then}
+use Rattle.text.proofs.After.{then}
 use borrow.Author.Needs.{needs}
 use Rattle.lines.proofs.put_read.Statement.{statement}
 use Rattle.lines.proofs.put_read.Tie as tie

@@ -1,4 +1,4 @@
-use Rattle.lines.proofs.After.{then, lengthened}
+use Rattle.text.proofs.After.{then, lengthened}
 use borrow.Author.Needs.{needs}
 use Rattle.lines.proofs.put_step.Statement.{statement}
 use Rattle.lines.proofs.put_step.Tie as tie

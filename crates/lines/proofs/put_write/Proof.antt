@@ -1,4 +1,4 @@
-use Rattle.lines.proofs.After.{then}
+use Rattle.text.proofs.After.{then}
 use borrow.Author.Needs.{needs}
 use Rattle.lines.proofs.put_write.Statement.{statement}
 use Rattle.lines.proofs.put_write.Tie as tie

@@ -1,4 +1,4 @@
-use Rattle.capi.specs.Edge.{ofStepped}
+use Rattle.edge.specs.Edge.{ofStepped}
 use mathlib.Core.Path.{_∙_, ap}
 use borrow.Author.Needs.{needs}
 use Rattle.capi.proofs.calls.fm1_advance.Statement.{statement}

@@ -1,4 +1,4 @@
-use Rattle.capi.specs.Edge.{flagged}
+use Rattle.capi.specs.Flags.{flagged}
 use borrow.Author.Tests.{lt-ltb, le-ltb}
 use borrow.Author.Needs.{needs}
 use Rattle.capi.proofs.calls.fm1_set_spi2_pending.Statement.{statement}

@@ -1,4 +1,4 @@
-use Rattle.capi.specs.Ports.{registerOf}
+use Rattle.capi.specs.Flags.{registerOf}
 use borrow.Author.Tests.{eq-eqb, ne-eqb, lt-ltb, le-ltb}
 use borrow.Author.Needs.{needs}
 use Rattle.capi.proofs.ports.fm1_port_reg.Statement.{statement}

@@ -1,0 +1,4 @@
+pub mod WordsIn
+pub mod Lists
+pub mod Numbers
+pub mod Asks

@@ -1,0 +1,61 @@
+// The limits of the calls, tried on a new board: each lent length, each parameter and a new board's rate, and every call on a board of the rate 0, which is not whole. It reads lines from standard input, at most 64 KB of
+// them, and writes each again; one that tries something with ` = ` and the number that comes back, 0 for done. tools/broken writes both sides from document 01.
+//
+//     let hz V                                 the boards have that rate from here on
+//     CALL A FIRST SECOND = N                  `read`, `write` (of address A), `irq_enabled`, `pending_irq_for` (of core A), `pending_irq`, `chip_reset`, lent banks of so many words
+//     made HZ QUEUE ENTRIES FIRST SECOND = N   a new board: its rate, its queue, script and banks
+//     CALL A B = N                             any other call, with its numbers
+//
+// The step, the push and `apply` are tried by crates/breaks. Numbers are decimal, and one that is not there is 0. Other lines (remarks, empty ones) are only written.
+mod asks;
+mod banks;
+mod lines;
+
+use asks::CALLS;
+use asks::asked;
+use asks::call_of;
+use lines::between;
+use lines::numbers_of;
+use lines::told;
+use lines::told_one;
+use lines::word_of;
+use text::first;
+use text::is;
+use text::word;
+
+fn main() {
+    let mut input = [0u8; 65536];
+    let got = io::read_full(libc::STDIN_FILENO, &mut input);
+    every_line(first(&input, got));
+}
+
+fn every_line(input: &[u8]) {
+    let mut hz: u64 = 0;
+    let mut from: usize = 0;
+    let mut i: usize = 0;
+    while i < input.len() {
+        let b = input[i];
+        let to = i;
+        i = i + 1;
+        if b == b'\n' {
+            hz = answered(between(input, from, to), hz);
+            from = i;
+        }
+    }
+}
+
+// The rate after the line.
+fn answered(line: &[u8], hz: u64) -> u64 {
+    let verb = word(line, 0);
+    let n = numbers_of(line, verb.to);
+    let call = call_of(word_of(line, verb));
+    if call < CALLS {
+        told_one(line, asked(hz, call, n));
+        return hz;
+    }
+    told(line);
+    if is(line, verb, b"let") {
+        return n.b;
+    }
+    hz
+}
