@@ -4,14 +4,14 @@ mod lists;
 mod numbers;
 mod words_in;
 
-use crate::ids::id_in;
+pub use crate::ids::id_in;
 use crate::lists::Found;
 use crate::lists::find;
 use crate::lists::type_at;
 use crate::numbers::typed;
-use crate::words_in::Words;
-use crate::words_in::rest;
-use crate::words_in::words_of;
+pub use crate::words_in::Words;
+pub use crate::words_in::rest;
+pub use crate::words_in::words_of;
 use text::Number;
 use text::bytes_of;
 use text::decimal_in;
@@ -248,7 +248,8 @@ fn named(k: usize, line: &[u8], w: Words) -> Ask
     }
 }
 
-fn listed(list: &[u8], start: u8, line: &[u8], w: Words) -> Ask
+// The line's first word as a name of a list, whose calls are counted from `start`, and its numbers.
+pub fn listed(list: &[u8], start: u8, line: &[u8], w: Words) -> Ask
     ensures { λ r. ⌜ r ≡ listedAs (now (list .entry)) start (now (line .entry)) w ⌝ }
 {
     numbered(list, find(list, bytes_of(line, w.verb)), start, line, w)

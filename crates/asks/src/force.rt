@@ -69,11 +69,8 @@ fn force_of(bits: u32) -> f32 {
 }
 
 // Where a key lands for a velocity.
-pub fn of_velocity(n: u64) -> Answer {
-    if 255 < n {
-        return Answer::Unknown;
-    }
-    Answer::Number(bits(pressure::vel_force(n as u8)) as u64)
+pub fn of_velocity(vel: u8) -> Answer {
+    Answer::Number(bits(pressure::vel_force(vel)) as u64)
 }
 
 // No force is below 0, or no number.

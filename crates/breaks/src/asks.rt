@@ -2,14 +2,14 @@
 use crate::lent::apply;
 use crate::lent::push;
 use crate::lent::step;
-use crate::lines::Numbers;
-use crate::lines::Three;
-use crate::lines::place_in;
-use crate::record::PLACES;
-use crate::record::ROWS;
-use crate::record::board_of;
-use crate::record::put_at;
+use rows::PLACES;
+use rows::ROWS;
+use rows::board_of;
+use rows::put_at;
 use state::Board;
+use tries::Answer;
+use tries::Numbers;
+use tries::place_in;
 
 pub const CALLS: usize = 8;
 
@@ -23,18 +23,19 @@ pub fn call_of(name: &[u8]) -> usize {
 }
 
 // The record with a number at a place of a row.
-pub fn three(rows: &[[u64; PLACES]; ROWS], k: usize, i: u64, v: u64) -> Three {
+pub fn three(rows: &[[u64; PLACES]; ROWS], k: usize, i: u64, v: u64) -> Answer {
     let mut changed = *rows;
     put_at(&mut changed, k, i, v);
     three_of(board_of(&changed))
 }
 
-fn three_of(b: Board) -> Three {
+fn three_of(b: Board) -> Answer {
     let front = b.chip.script.at;
-    Three {
-        ms: board::ms(b).refused,
-        step: step(b, 0, 3125, 512, 4352, front),
-        push: push(b, 512, front),
+    Answer {
+        count: 3,
+        one: board::ms(b).refused,
+        two: step(b, 0, 3125, 512, 4352, front),
+        three: push(b, 512, front),
     }
 }
 

@@ -13,26 +13,24 @@
 // Numbers are decimal, a force is given by its bits, and a number that is not there is 0. Other lines (remarks, empty ones) are only written.
 mod asks;
 mod lent;
-mod lines;
-mod record;
 
 use asks::CALLS;
 use asks::asked;
 use asks::call_of;
 use asks::three;
-use lines::between;
-use lines::numbers_of;
-use lines::told;
-use lines::told_one;
-use lines::told_three;
-use lines::word_of;
-use record::PLACES;
-use record::ROWS;
-use record::fill;
-use record::row_of;
+use rows::PLACES;
+use rows::ROWS;
+use rows::fill;
+use rows::row_of;
+use text::Span;
+use text::bytes_of;
 use text::first;
 use text::is;
 use text::word;
+use tries::Answer;
+use tries::Numbers;
+use tries::numbers_of;
+use tries::put_line;
 
 fn main() {
     let mut input = [0u8; 65536];
@@ -49,7 +47,7 @@ fn every_line(input: &[u8]) {
         let to = i;
         i = i + 1;
         if b == b'\n' {
-            answered(between(input, from, to), &mut rows);
+            answered(bytes_of(input, Span { from: from, to: to }), &mut rows);
             from = i;
         }
     }
@@ -59,20 +57,38 @@ fn answered(line: &[u8], rows: &mut [[u64; PLACES]; ROWS]) {
     let verb = word(line, 0);
     let name = word(line, verb.to);
     let n = numbers_of(line, verb.to);
-    let row = row_of(word_of(line, verb));
-    let call = call_of(word_of(line, verb));
     if is(line, verb, b"let") {
-        fill(rows, row_of(word_of(line, name)), n.b);
-        told(line);
+        fill(rows, row_of(bytes_of(line, name)), n.b);
+        told(line, number(0, 0));
         return;
     }
+    told(line, tried(rows, bytes_of(line, verb), n));
+}
+
+fn tried(rows: &[[u64; PLACES]; ROWS], name: &[u8], n: Numbers) -> Answer {
+    let row = row_of(name);
     if row < ROWS {
-        told_three(line, three(rows, row, n.a, n.b));
-        return;
+        return three(rows, row, n.a, n.b);
     }
+    let call = call_of(name);
     if call < CALLS {
-        told_one(line, asked(rows, call, n));
-        return;
+        return number(1, asked(rows, call, n));
     }
-    told(line);
+    number(0, 0)
+}
+
+// One number, or none.
+fn number(count: u32, n: u32) -> Answer {
+    Answer {
+        count: count,
+        one: n,
+        two: 0,
+        three: 0,
+    }
+}
+
+fn told(line: &[u8], a: Answer) {
+    let mut out = [0u8; 256];
+    let to = put_line(&mut out, line, a);
+    io::write_all(libc::STDOUT_FILENO, first(&out, to));
 }

@@ -30,11 +30,8 @@
 // Actions are `key ID DOWN`, `enc ENC CLICKS`, `adc CH VALUE`, `midi B`, `vel VEL` and `pressure ID VEL`. Addresses and values are hex, other numbers
 // decimal. A call that is refused answers `E` and the refusal's number, where its result is not that number itself. Empty lines and lines that
 // begin with `#` answer nothing. A line of more than 4,096 bytes is answered `? = ?`.
-mod banks;
 mod boards;
-mod deeds;
 mod lines;
-mod looks;
 mod running;
 mod written;
 
@@ -65,8 +62,8 @@ fn main() {
     let mut lights = [0u64; 41];
     let made = board::made(
         RATE,
-        deeds::QUEUE_BYTES,
-        deeds::ENTRIES,
+        boards::QUEUE_BYTES,
+        boards::ENTRIES,
         &mut icfg,
         &mut icfg1,
     );

@@ -1,9 +1,9 @@
 // Every public call that takes the board and no script or queue, and the making of one.
 use crate::banks::banked;
 use crate::banks::made;
-use crate::lines::Numbers;
-use crate::lines::place_in;
 use state::Board;
+use tries::Numbers;
+use tries::place_in;
 
 pub const CALLS: usize = 29;
 

@@ -9,19 +9,18 @@
 // The step, the push and `apply` are tried by crates/breaks. Numbers are decimal, and one that is not there is 0. Other lines (remarks, empty ones) are only written.
 mod asks;
 mod banks;
-mod lines;
 
 use asks::CALLS;
 use asks::asked;
 use asks::call_of;
-use lines::between;
-use lines::numbers_of;
-use lines::told;
-use lines::told_one;
-use lines::word_of;
+use text::Span;
+use text::bytes_of;
 use text::first;
 use text::is;
 use text::word;
+use tries::Answer;
+use tries::numbers_of;
+use tries::put_line;
 
 fn main() {
     let mut input = [0u8; 65536];
@@ -38,7 +37,7 @@ fn every_line(input: &[u8]) {
         let to = i;
         i = i + 1;
         if b == b'\n' {
-            hz = answered(between(input, from, to), hz);
+            hz = answered(bytes_of(input, Span { from: from, to: to }), hz);
             from = i;
         }
     }
@@ -48,14 +47,27 @@ fn every_line(input: &[u8]) {
 fn answered(line: &[u8], hz: u64) -> u64 {
     let verb = word(line, 0);
     let n = numbers_of(line, verb.to);
-    let call = call_of(word_of(line, verb));
+    let call = call_of(bytes_of(line, verb));
     if call < CALLS {
-        told_one(line, asked(hz, call, n));
+        told(line, 1, asked(hz, call, n));
         return hz;
     }
-    told(line);
+    told(line, 0, 0);
     if is(line, verb, b"let") {
         return n.b;
     }
     hz
+}
+
+// One number, or none.
+fn told(line: &[u8], count: u32, n: u32) {
+    let mut out = [0u8; 256];
+    let a = Answer {
+        count: count,
+        one: n,
+        two: 0,
+        three: 0,
+    };
+    let to = put_line(&mut out, line, a);
+    io::write_all(libc::STDOUT_FILENO, first(&out, to));
 }

@@ -19,8 +19,8 @@ shared-slice-read-b c = search needs
 add-i : tie.Need-add-i Inv-loop μ-loop
 add-i c = search needs
 
-between-requires : tie.Need-between-requires Inv-loop μ-loop
-between-requires c κs = search needs
+bytes-of-requires : tie.Need-bytes-of-requires Inv-loop μ-loop
+bytes-of-requires c κs = search needs
 
 answered-requires : tie.Need-answered-requires Inv-loop μ-loop
 answered-requires c κs = search needs
@@ -49,7 +49,7 @@ every-line-spec =
     loop-holds
     shared-slice-read-b
     add-i
-    between-requires
+    bytes-of-requires
     answered-requires
     loop-less
     loop-again

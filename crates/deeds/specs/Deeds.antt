@@ -1,0 +1,56 @@
+-- The calls by their numbers, each what `board` promises of it.
+use Prim.Native.Nat.{ℕ}
+use mathlib.Core.Bool.{Bool, cond}
+use mathlib.Core.List.{List}
+use lib.Dec.{eqb}
+use Rattle.asking.specs.declared.Ask.{Ask}
+use Rattle.board.specs.Calls.{idleCall, shiftCall, usbCall, wdtCall, spi1Call, spi2Call, spi1OffCall, ticksCall, capCall, skipCall, isrCall, excCall, spi2FlagCall, tickCall, readCall, writeCall}
+use Rattle.board.specs.declared.Done.{Done}
+use Rattle.board.specs.declared.Reading.{Reading}
+use Rattle.state.specs.declared.Board.{Board}
+use Rattle.telling.specs.Answers.{flagOf}
+use Rattle.deeds.specs.Outcomes.{toldOf, readAnswer}
+use Rattle.deeds.specs.declared.Boarded.{Boarded}
+
+unfoldable pub flagSet : Board → ℕ → Bool → Done
+flagSet b call on =
+    cond (eqb call 32) (skipCall b on)
+    (cond (eqb call 33) (isrCall b on)
+    (cond (eqb call 34) (excCall b on)
+    (spi2FlagCall b on)))
+
+unfoldable pub setOf : Board → ℕ → ℕ → Done
+setOf b call n =
+    cond (eqb call 30) (ticksCall b n)
+    (cond (eqb call 31) (capCall b n)
+    (flagSet b call (eqb n 1)))
+
+unfoldable pub didOf : Board → Ask → Done
+didOf b ask =
+    cond (eqb (ask .call) 13) (idleCall b)
+    (cond (eqb (ask .call) 15) (shiftCall b (ask .b))
+    (cond (eqb (ask .call) 16) (usbCall b (ask .n) (ask .m))
+    (cond (eqb (ask .call) 17) (wdtCall b (ask .n))
+    (cond (eqb (ask .call) 18) (spi1Call b (ask .a) (ask .v) (eqb (ask .l) 1))
+    (cond (eqb (ask .call) 19) (spi2Call b (ask .a) (ask .v) (eqb (ask .l) 1))
+    (cond (eqb (ask .call) 14) (spi1OffCall b)
+    (setOf b (ask .call) (ask .n))))))))
+
+unfoldable pub doneOf : ℕ → Done → Boarded
+doneOf call d = record { board = d .board; answer = toldOf call (d .refused) (d .board .chip .spi) (d .board .chip .clock) }
+
+unfoldable pub tickedOf : Board → Boarded
+tickedOf b = record { board = tickCall b .board; answer = flagOf (tickCall b .refused) (tickCall b .due) }
+
+abbrev pub readingAs : Reading → Boarded
+readingAs r = record { board = r .board; answer = readAnswer (r .refused) (r .value) (r .board .chip .clock) }
+
+unfoldable pub readingOf : Board → ℕ → List ℕ → List ℕ → Boarded
+readingOf b addr first second = readingAs (readCall b addr first second)
+
+unfoldable pub writtenOf : Board → ℕ → ℕ → ℕ → ℕ → Boarded
+writtenOf b addr v first second =
+    record {
+      board = writeCall b addr v first second .board;
+      answer = flagOf (writeCall b addr v first second .refused) (writeCall b addr v first second .handled);
+    }

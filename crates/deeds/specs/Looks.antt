@@ -1,0 +1,32 @@
+-- Lines that leave the board as it is: the calls by their numbers, each answered with what `board` promises of it.
+use Prim.Native.Nat.{ℕ}
+use mathlib.Core.Bool.{cond}
+use mathlib.Core.List.{List, [], _∷_}
+use lib.Dec.{eqb}
+use Rattle.asking.specs.declared.Ask.{Ask}
+use Rattle.board.specs.Calls.{roomCall, msCall, cyclesCall, nextDueCall, anyCall, choiceCall, enabledCall}
+use Rattle.state.specs.declared.Board.{Board}
+use Rattle.telling.specs.declared.Answer.{Answer}
+use Rattle.deeds.specs.Outcomes.{countedOf, flaggedOf, chosenOf, plainOf}
+
+-- clock, due, skipped, halves, queued, dropped, script, wire, done, vel
+unfoldable pub stateOf : Board → Answer
+stateOf b =
+    record {
+      form = 12;
+      numbers =
+          b .chip .clock .cycles ∷ b .chip .clock .«next_due» ∷ b .chip .clock .skipped ∷ b .chip .audio .halves ∷ b .chip .uart .count
+          ∷ b .chip .uart .dropped ∷ b .chip .script .count ∷ b .chip .spi .«spi1_wire» ∷ b .chip .spi .«spi1_done_at» ∷ b .chip .keys .vel ∷ [];
+    }
+
+unfoldable pub lookedOf : Board → Ask → List ℕ → List ℕ → Answer
+lookedOf b ask first second =
+    cond (eqb (ask .call) 5) (stateOf b)
+    (cond (eqb (ask .call) 6) (countedOf (roomCall b))
+    (cond (eqb (ask .call) 7) (countedOf (msCall b))
+    (cond (eqb (ask .call) 10) (countedOf (cyclesCall b (ask .n)))
+    (cond (eqb (ask .call) 8) (flaggedOf (nextDueCall b))
+    (cond (eqb (ask .call) 9) (flaggedOf (anyCall b))
+    (cond (eqb (ask .call) 11) (chosenOf (choiceCall b (ask .a) first second .refused) (choiceCall b (ask .a) first second .choice))
+    (cond (eqb (ask .call) 12) (flaggedOf (enabledCall b (ask .a) (ask .c) first second))
+    (plainOf (ask .call) (ask .n)))))))))
