@@ -110,3 +110,37 @@ fn an_unknown_event_is_none() {
     assert_eq!(port.write(0x13e08, 1).err(), Some(Refused::Count));
     assert_eq!(port.record().changed, 1 << 62);
 }
+
+/// SIZE before anything else, for every call of the port that is lent its memory; COUNT from 2^62 on, for every call that can raise the count. What is just permitted is done.
+#[test]
+fn a_port_refuses_lengths_and_counts() {
+    let fresh = *Port::new().record();
+    for len in [0, PORT_BYTES - 1, PORT_BYTES, PORT_BYTES + 1] {
+        let (mut regs, right) = (vec![7u8; len], [7u8; PORT_BYTES]);
+        let number = if len == PORT_BYTES { 0 } else { SIZE };
+        let mut full = fresh;
+        full.changed = 1 << 62;
+        unsafe {
+            assert_eq!(fm1_port_reg(regs.as_ptr(), len, 0, 0).refused, number);
+            assert_eq!(fm1_port_same(fresh, regs.as_ptr(), len, fresh, right.as_ptr(), right.len()).refused, number);
+            assert_eq!(fm1_port_same(fresh, right.as_ptr(), right.len(), fresh, regs.as_ptr(), len).refused, number);
+            for (changed, count) in [((1 << 62) - 1, 0), (1 << 62, COUNT), (u64::MAX, COUNT)] {
+                full.changed = changed;
+                let before = regs.clone();
+                let number = if number == SIZE { SIZE } else { count };
+                let wrote = fm1_port_write(full, regs.as_mut_ptr(), len, 0x13e08, 5);
+                assert_eq!((wrote.said.refused, &regs), (number, &before));
+                let reset = fm1_port_chip_reset(full, regs.as_mut_ptr(), len, 4);
+                assert_eq!(reset.said.refused, number);
+                if number != 0 {
+                    assert_eq!((wrote.port.changed, wrote.port.dat, reset.port.changed), (changed, full.dat, changed));
+                    assert_eq!(regs, before);
+                }
+                regs = before;
+            }
+            let made = fm1_port_new(regs.as_mut_ptr(), len);
+            assert_eq!(made.said.refused, number);
+            assert_eq!(regs, vec![if number == 0 { 0 } else { 7 }; len]);
+        }
+    }
+}
