@@ -5,6 +5,7 @@ use base::least;
 use panel::Map;
 use panel::Pins;
 use panel::Ramps;
+use panel::ramp_at;
 use pressure::OPEN;
 use pressure::Pin;
 use pressure::next_noise;
@@ -15,6 +16,7 @@ ghost use mathlib.Core.Path.{_≡_};
 ghost use Prim.Native.Nat.{_≤_, _<_, _^_};
 ghost use lib.Ieee.{Float};
 ghost use Rattle.panel.specs.Facts.{RampsShort};
+ghost use Rattle.panel.specs.Keys.{rampsOf};
 ghost use Rattle.pressure.specs.Pin.{Ohms, Wired};
 ghost use Rattle.adc.specs.Adc.{
   adcNew,
@@ -70,21 +72,39 @@ fn pin_at(pins: Pins, n: u32) -> Pin
 }
 
 // The value of the key of an id, in 256ths; where there is no key, that of an open one.
-fn key_value(ramps: Ramps, id: u8, now: u64, ohms: f32) -> u32
-    requires { ⌜ RampsShort ramps × Ohms ohms ⌝ }
-    ensures { λ r. ⌜ r ≡ keyValue ramps now ohms id ⌝ }
+fn key_value(
+    t0: &[u64; 41],
+    dur: &[u32; 41],
+    from: &[f32; 41],
+    to: &[f32; 41],
+    id: u8,
+    now: u64,
+    ohms: f32,
+) -> u32
+    requires { ⌜ RampsShort (rampsOf (t0 .now) (dur .now) (from .now) (to .now)) × Ohms ohms ⌝ }
+    ensures { λ r. ⌜ r ≡ keyValue (rampsOf (t0 .entry .now) (dur .entry .now) (from .entry .now) (to .entry .now)) now ohms id ⌝ }
     ensures bounded { λ r. ⌜ r ≤ 261888 ⌝ }
 {
     if id < 41 {
-        return value(ramps.ramp(id as usize).at(now), ohms);
+        return value(ramp_at(t0, dur, from, to, id as usize).at(now), ohms);
     }
     OPEN
 }
 
 // The least value over the keys of a row in the selected columns.
-fn row_least(map: Map, ramps: Ramps, latched: u16, row: usize, now: u64, ohms: f32) -> u32
-    requires { ⌜ (row < 6) × RampsShort ramps × Ohms ohms ⌝ }
-    ensures { λ r. ⌜ r ≡ leastTo map ramps latched row now ohms 11 ⌝ }
+fn row_least(
+    map: Map,
+    t0: &[u64; 41],
+    dur: &[u32; 41],
+    from: &[f32; 41],
+    to: &[f32; 41],
+    latched: u16,
+    row: usize,
+    now: u64,
+    ohms: f32,
+) -> u32
+    requires { ⌜ (row < 6) × RampsShort (rampsOf (t0 .now) (dur .now) (from .now) (to .now)) × Ohms ohms ⌝ }
+    ensures { λ r. ⌜ r ≡ leastTo map (rampsOf (t0 .entry .now) (dur .entry .now) (from .entry .now) (to .entry .now)) latched row now ohms 11 ⌝ }
 {
     let mut v = OPEN as u64;
     let mut col: usize = 0;
@@ -92,7 +112,10 @@ fn row_least(map: Map, ramps: Ramps, latched: u16, row: usize, now: u64, ohms: f
         let c = col;
         col = col + 1;
         if (latched >> c) % 2 == 0 {
-            v = least(v, key_value(ramps, map.id(row, c), now, ohms) as u64);
+            v = least(
+                v,
+                key_value(t0, dur, from, to, map.id(row, c), now, ohms) as u64,
+            );
         }
     }
     v as u32
@@ -102,15 +125,18 @@ fn row_least(map: Map, ramps: Ramps, latched: u16, row: usize, now: u64, ohms: f
 fn row_reads(
     map: Map,
     pins: Pins,
-    ramps: Ramps,
+    t0: &[u64; 41],
+    dur: &[u32; 41],
+    from: &[f32; 41],
+    to: &[f32; 41],
     row: usize,
     pin: u32,
     stored: u16,
     now: u64,
     noise: u32,
 ) -> Sampled
-    requires { ⌜ (row < 6) × (pin < 32) × RampsShort ramps ⌝ }
-    ensures { λ r. ⌜ r ≡ pinReads (pinAt pins pin) (λ ohms. leastTo map ramps (pins .«sr_latched») row now ohms 11) stored noise ⌝ }
+    requires { ⌜ (row < 6) × (pin < 32) × RampsShort (rampsOf (t0 .now) (dur .now) (from .now) (to .now)) ⌝ }
+    ensures { λ r. ⌜ r ≡ pinReads (pinAt pins pin) (λ ohms. leastTo map (rampsOf (t0 .entry .now) (dur .entry .now) (from .entry .now) (to .entry .now)) (pins .«sr_latched») row now ohms 11) stored noise ⌝ }
 {
     match pin_at(pins, pin) {
         Pin::Low => Sampled {
@@ -118,7 +144,7 @@ fn row_reads(
             noise: noise,
         },
         Pin::Through(ohms) => {
-            let least = row_least(map, ramps, pins.sr_latched, row, now, ohms);
+            let least = row_least(map, t0, dur, from, to, pins.sr_latched, row, now, ohms);
             let moved = next_noise(noise);
             Sampled {
                 sample: sample(least, moved),
@@ -135,20 +161,32 @@ fn row_reads(
 fn channel_reads(
     map: Map,
     pins: Pins,
-    ramps: Ramps,
+    t0: &[u64; 41],
+    dur: &[u32; 41],
+    from: &[f32; 41],
+    to: &[f32; 41],
     stored: u16,
     now: u64,
     noise: u32,
     ch: u32,
 ) -> Sampled
-    requires { ⌜ RampsShort ramps ⌝ }
-    ensures { λ r. ⌜ r ≡ channelReads map pins ramps stored now noise ch ⌝ }
+    requires { ⌜ RampsShort (rampsOf (t0 .now) (dur .now) (from .now) (to .now)) ⌝ }
+    ensures { λ r. ⌜ r ≡ channelReads map pins (rampsOf (t0 .entry .now) (dur .entry .now) (from .entry .now) (to .entry .now)) stored now noise ch ⌝ }
 {
-    if ch == 0 {
-        return row_reads(map, pins, ramps, 3, 7, stored, now, noise);
-    }
-    if ch == 1 {
-        return row_reads(map, pins, ramps, 4, 8, stored, now, noise);
+    if ch < 2 {
+        return row_reads(
+            map,
+            pins,
+            t0,
+            dur,
+            from,
+            to,
+            3 + ch as usize,
+            7 + ch,
+            stored,
+            now,
+            noise,
+        );
     }
     Sampled {
         sample: stored,
@@ -203,16 +241,30 @@ impl Adc {
         self,
         map: Map,
         pins: Pins,
-        ramps: Ramps,
-        values: [u16; 16],
+        t0: &[u64; 41],
+        dur: &[u32; 41],
+        from: &[f32; 41],
+        to: &[f32; 41],
+        values: &[u16; 16],
         now: u64,
         v: u32,
     ) -> Wrote
-        requires { ⌜ RampsShort ramps ⌝ }
-        ensures { λ r. ⌜ r ≡ converted self map pins ramps values now v ⌝ }
+        requires { ⌜ RampsShort (rampsOf (t0 .now) (dur .now) (from .now) (to .now)) ⌝ }
+        ensures { λ r. ⌜ r ≡ converted self map pins (rampsOf (t0 .entry .now) (dur .entry .now) (from .entry .now) (to .entry .now)) (values .entry .now) now v ⌝ }
     {
         let ch = (v >> 8) % 16;
-        let got = channel_reads(map, pins, ramps, values[ch as usize], now, self.noise, ch);
+        let got = channel_reads(
+            map,
+            pins,
+            t0,
+            dur,
+            from,
+            to,
+            values[ch as usize],
+            now,
+            self.noise,
+            ch,
+        );
         let raises = v & 0x20 != 0;
         Wrote {
             adc: Adc {
@@ -226,17 +278,21 @@ impl Adc {
         }
     }
 
-    pub fn write_con(
+    // A write of CON, with the keys' ramps and the channels' values where they are kept.
+    pub fn write_con_in(
         mut self,
         map: Map,
         pins: Pins,
-        ramps: Ramps,
-        values: [u16; 16],
+        t0: &[u64; 41],
+        dur: &[u32; 41],
+        from: &[f32; 41],
+        to: &[f32; 41],
+        values: &[u16; 16],
         now: u64,
         v: u32,
     ) -> Wrote
-        requires { ⌜ RampsShort ramps ⌝ }
-        ensures { λ r. ⌜ r ≡ conWritten self map pins ramps values now v ⌝ }
+        requires { ⌜ RampsShort (rampsOf (t0 .now) (dur .now) (from .now) (to .now)) ⌝ }
+        ensures { λ r. ⌜ r ≡ conWritten self map pins (rampsOf (t0 .entry .now) (dur .entry .now) (from .entry .now) (to .entry .now)) (values .entry .now) now v ⌝ }
     {
         if v & 0x40 == 0 {
             self.con = v;
@@ -248,7 +304,26 @@ impl Adc {
         if v & 0x10 == 0 {
             return self.acknowledged(v);
         }
-        self.converted(map, pins, ramps, values, now, v)
+        self.converted(map, pins, t0, dur, from, to, values, now, v)
+    }
+
+    pub fn write_con(
+        self,
+        map: Map,
+        pins: Pins,
+        ramps: Ramps,
+        values: [u16; 16],
+        now: u64,
+        v: u32,
+    ) -> Wrote
+        requires { ⌜ RampsShort ramps ⌝ }
+        ensures { λ r. ⌜ r ≡ conWritten self map pins ramps values now v ⌝ }
+    {
+        let t0 = ramps.t0;
+        let dur = ramps.dur;
+        let from = ramps.from;
+        let to = ramps.to;
+        self.write_con_in(map, pins, &t0, &dur, &from, &to, &values, now, v)
     }
 }
 
@@ -272,13 +347,19 @@ fn moves(raises: bool, irq: u16) -> bool
 }
 
 // Action Adc: a channel's value.
+pub fn set_value(values: &mut [u16; 16], ch: u8, v: u16)
+    ensures { λ _. ⌜ now (values .exit) ≡ valueSet (now (values .entry)) ch v ⌝ }
+{
+    if ch < 16 {
+        values[ch as usize] = least(v as u64, 1023) as u16;
+    }
+}
+
+// The same, handed back.
 pub fn value_set(values: [u16; 16], ch: u8, v: u16) -> [u16; 16]
     ensures { λ r. ⌜ r ≡ valueSet values ch v ⌝ }
 {
-    if ch < 16 {
-        let mut a = values;
-        a[ch as usize] = least(v as u64, 1023) as u16;
-        return a;
-    }
-    values
+    let mut a = values;
+    set_value(&mut a, ch, v);
+    a
 }

@@ -21,13 +21,15 @@
 //
 // Words are separated by spaces, other numbers are decimal. Empty lines and lines that begin with `#` answer nothing. A line of more
 // than 4,096 bytes is answered `? = ?`.
-mod ask;
-mod force;
-mod record;
+mod answers;
 
+use answers::answer;
+use telling::Answer;
+use telling::LONG_LINE;
+use telling::put_line;
+use telling::two;
 use text::first;
 use text::put;
-use text::put_text;
 
 // The line so far, and the answers that wait.
 struct Went {
@@ -71,13 +73,18 @@ fn chunk(input: &[u8], line: &mut [u8], out: &mut [u8], went: Went) -> Went {
     Went { line: n, out: to }
 }
 
-// The line is answered; what waits is written out before there could be no room for the next answer.
+// The line is answered; what waits is written out before there could be no room for the next answer. No answer here shows lights.
 fn ended(line: &[u8], n: usize, out: &mut [u8], waits: usize) -> usize {
+    let lights = [0u64; 41];
     let to = flushed(out, waits);
+    put_line(out, to, first(line, n), answered(line, n), &lights)
+}
+
+fn answered(line: &[u8], n: usize) -> Answer {
     if n < line.len() {
-        return answered(first(line, n), out, to);
+        return answer(first(line, n));
     }
-    put_text(out, to, b"? = ?\n")
+    two(LONG_LINE, 0, 0)
 }
 
 fn flushed(out: &[u8], to: usize) -> usize {
@@ -90,14 +97,4 @@ fn flushed(out: &[u8], to: usize) -> usize {
 
 fn flush(out: &[u8], n: usize) {
     io::write_all(libc::STDOUT_FILENO, first(out, n));
-}
-
-fn answered(line: &[u8], out: &mut [u8], at: usize) -> usize {
-    if text::is_passed_over(line) {
-        return at;
-    }
-    let told = put_text(out, at, line);
-    let equals = put_text(out, told, b" = ");
-    let said = ask::put_answer(out, equals, line);
-    put(out, said, b'\n')
 }

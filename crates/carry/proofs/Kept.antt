@@ -35,14 +35,14 @@ either P true x y p q = p
 either P false x y p q = q
 
 -- a written bank is as long as it was
-first-length : (bank : List ℕ) (addr v : ℕ) → length (firstWritten bank addr v) ≡ length bank
+pub first-length : (bank : List ℕ) (addr v : ℕ) → length (firstWritten bank addr v) ≡ length bank
 unfolding firstWritten
 first-length bank addr v =
     either (λ (l : List ℕ). length l ≡ length bank) (leb 0x1eef100 addr) _ _
     (either (λ (l : List ℕ). length l ≡ length bank) (leb addr 0x1eef17f) _ _ (length-set bank ((addr - 0x1eef100) / 4) v) refl)
     refl
 
-second-length : (bank : List ℕ) (addr v : ℕ) → length (secondWritten bank addr v) ≡ length bank
+pub second-length : (bank : List ℕ) (addr v : ℕ) → length (secondWritten bank addr v) ≡ length bank
 unfolding secondWritten
 second-length bank addr v =
     either (λ (l : List ℕ). length l ≡ length bank) (leb 0x1eef300 addr) _ _

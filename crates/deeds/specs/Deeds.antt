@@ -1,16 +1,14 @@
 -- The calls by their numbers, each what `board` promises of it.
 use Prim.Native.Nat.{ℕ}
 use mathlib.Core.Bool.{Bool, cond}
-use mathlib.Core.List.{List}
 use lib.Dec.{eqb}
 use Rattle.asking.specs.declared.Ask.{Ask}
-use Rattle.board.specs.Calls.{idleCall, shiftCall, usbCall, wdtCall, spi1Call, spi2Call, spi1OffCall, ticksCall, capCall, skipCall, isrCall, excCall, spi2FlagCall, tickCall, readCall, writeCall}
+use Rattle.board.specs.Calls.{idleCall, shiftCall, usbCall, wdtCall, spi1Call, spi2Call, spi1OffCall, ticksCall, capCall, skipCall, isrCall, excCall, spi2FlagCall, tickCall}
 use Rattle.board.specs.declared.Done.{Done}
-use Rattle.board.specs.declared.Reading.{Reading}
 use Rattle.state.specs.declared.Board.{Board}
 use Rattle.telling.specs.Answers.{flagOf}
-use Rattle.deeds.specs.Outcomes.{toldOf, readAnswer}
-use Rattle.deeds.specs.declared.Boarded.{Boarded}
+use Rattle.outcomes.specs.Outcomes.{toldOf}
+use Rattle.outcomes.specs.declared.Boarded.{Boarded}
 
 unfoldable pub flagSet : Board → ℕ → Bool → Done
 flagSet b call on =
@@ -41,16 +39,3 @@ doneOf call d = record { board = d .board; answer = toldOf call (d .refused) (d 
 
 unfoldable pub tickedOf : Board → Boarded
 tickedOf b = record { board = tickCall b .board; answer = flagOf (tickCall b .refused) (tickCall b .due) }
-
-abbrev pub readingAs : Reading → Boarded
-readingAs r = record { board = r .board; answer = readAnswer (r .refused) (r .value) (r .board .chip .clock) }
-
-unfoldable pub readingOf : Board → ℕ → List ℕ → List ℕ → Boarded
-readingOf b addr first second = readingAs (readCall b addr first second)
-
-unfoldable pub writtenOf : Board → ℕ → ℕ → ℕ → ℕ → Boarded
-writtenOf b addr v first second =
-    record {
-      board = writeCall b addr v first second .board;
-      answer = flagOf (writeCall b addr v first second .refused) (writeCall b addr v first second .handled);
-    }

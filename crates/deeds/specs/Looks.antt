@@ -5,9 +5,25 @@ use mathlib.Core.List.{List, [], _∷_}
 use lib.Dec.{eqb}
 use Rattle.asking.specs.declared.Ask.{Ask}
 use Rattle.board.specs.Calls.{roomCall, msCall, cyclesCall, nextDueCall, anyCall, choiceCall, enabledCall}
+use Rattle.board.specs.declared.Flag.{Flag}
+use Rattle.board.specs.declared.Number.{Number}
+use Rattle.irq.specs.declared.Choice.{Choice}
+use Rattle.irq.specs.declared.Choice.the-variants.{Of, None as NoChoice}
 use Rattle.state.specs.declared.Board.{Board}
+use Rattle.telling.specs.Answers.{pairOf, flagOf}
 use Rattle.telling.specs.declared.Answer.{Answer}
-use Rattle.deeds.specs.Outcomes.{countedOf, flaggedOf, chosenOf, plainOf}
+use Rattle.outcomes.specs.Outcomes.{plainOf}
+
+abbrev pub countedOf : Number → Answer
+countedOf n = pairOf (n .refused) 0 (n .value) 0
+
+abbrev pub flaggedOf : Flag → Answer
+flaggedOf f = flagOf (f .refused) (f .is)
+
+-- number and priority, or `none`
+unfoldable pub chosenOf : ℕ → Choice → Answer
+chosenOf refused (Of irq prio) = pairOf refused 6 irq prio
+chosenOf refused NoChoice = pairOf refused 8 0 0
 
 -- clock, due, skipped, halves, queued, dropped, script, wire, done, vel
 unfoldable pub stateOf : Board → Answer

@@ -1,13 +1,7 @@
-// The board's calls for `calls`: each carried out as a line asks, and what it answers. The numbers of calls, kinds and forms are those of `asking` and
-// `telling`.
-mod answers;
+// The board's calls for `calls` that are lent nothing, and those that only look: each carried out as a line asks, and what it answers. The numbers of calls and
+// forms are those of `asking` and `telling`.
 mod looks;
 
-pub use answers::Rest;
-pub use answers::action;
-use answers::read_answer;
-pub use answers::step_answer;
-use answers::told;
 use asking::Ask;
 use asking::CYCLE_TICKS;
 use asking::EXC;
@@ -23,19 +17,12 @@ use asking::USB;
 use asking::WDT;
 use board::Done;
 pub use looks::looked;
+use outcomes::Boarded;
+use outcomes::told;
 use state::Board;
-use telling::Answer;
 use telling::flag;
 ghost use mathlib.Core.Path.{_≡_};
-ghost use lib.ListN.{length};
-ghost use Rattle.board.specs.Calls.{writeFirst, writeSecond};
-ghost use Rattle.deeds.specs.Deeds.{doneOf, didOf, setOf, flagSet, tickedOf, readingOf, writtenOf};
-
-// The board after a call, and the answer.
-pub struct Boarded {
-    pub board: Board,
-    pub answer: Answer,
-}
+ghost use Rattle.deeds.specs.Deeds.{doneOf, didOf, setOf, flagSet, tickedOf};
 
 // ---- calls that answer the board and the number of a refusal
 
@@ -101,38 +88,5 @@ pub fn ticked(b: Board) -> Boarded
     Boarded {
         board: after,
         answer: flag(t.refused, t.due),
-    }
-}
-
-// ---- registers
-
-pub fn read<'a>(b: Board, addr: u32, icfg: &'a [u32; 32], icfg1: &'a [u32; 32]) -> Boarded
-    ensures { λ r. ⌜ r ≡ readingOf b addr (now (icfg .entry)) (now (icfg1 .entry)) ⌝ }
-{
-    let reading = board::read(b, addr, icfg, icfg1);
-    let after = reading.board;
-    let value = reading.value;
-    Boarded {
-        board: after,
-        answer: read_answer(reading.refused, value, after.chip.clock),
-    }
-}
-
-pub fn write(
-    b: Board,
-    addr: u32,
-    value: u32,
-    icfg: &mut [u32; 32],
-    icfg1: &mut [u32; 32],
-) -> Boarded
-    ensures { λ r. ⌜ r ≡ writtenOf b addr value (length (now (icfg .entry))) (length (now (icfg1 .entry))) ⌝ }
-    ensures first { λ _. ⌜ now (icfg .exit) ≡ writeFirst b addr value (now (icfg .entry)) (now (icfg1 .entry)) ⌝ }
-    ensures second { λ _. ⌜ now (icfg1 .exit) ≡ writeSecond b addr value (now (icfg .entry)) (now (icfg1 .entry)) ⌝ }
-{
-    let written = board::write(b, addr, value, icfg, icfg1);
-    let after = written.board;
-    Boarded {
-        board: after,
-        answer: flag(written.refused, written.handled),
     }
 }

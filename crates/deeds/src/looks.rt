@@ -1,8 +1,4 @@
 // Lines that leave the board as it is.
-use crate::answers::chosen;
-use crate::answers::counted;
-use crate::answers::flagged;
-use crate::answers::plain;
 use asking::Ask;
 use asking::CYCLES_OF;
 use asking::ENABLED;
@@ -12,11 +8,21 @@ use asking::NEXT_TICK;
 use asking::PENDING;
 use asking::ROOM;
 use asking::STATE;
+use board::Chosen;
+use board::Flag;
+use board::Number;
+use irq::Choice;
+use outcomes::plain;
 use state::Board;
 use telling::Answer;
+use telling::NONE;
+use telling::NUMBER;
 use telling::NUMBERS;
+use telling::PAIR;
+use telling::flag;
+use telling::pair;
 ghost use mathlib.Core.Path.{_≡_};
-ghost use Rattle.deeds.specs.Looks.{lookedOf, stateOf};
+ghost use Rattle.deeds.specs.Looks.{lookedOf, stateOf, countedOf, flaggedOf, chosenOf};
 
 pub fn looked<'a>(b: Board, ask: Ask, icfg: &'a [u32; 32], icfg1: &'a [u32; 32]) -> Answer
     ensures { λ r. ⌜ r ≡ lookedOf b ask (now (icfg .entry)) (now (icfg1 .entry)) ⌝ }
@@ -60,4 +66,28 @@ fn wide(n: u32) -> u64
     ensures { λ r. ⌜ r ≡ n ⌝ }
 {
     n as u64
+}
+
+// ---- as answers
+
+fn counted(n: Number) -> Answer
+    ensures { λ r. ⌜ r ≡ countedOf n ⌝ }
+{
+    pair(n.refused, NUMBER, n.value, 0)
+}
+
+fn flagged(f: Flag) -> Answer
+    ensures { λ r. ⌜ r ≡ flaggedOf f ⌝ }
+{
+    flag(f.refused, f.is)
+}
+
+fn chosen(c: Chosen) -> Answer
+    ensures { λ r. ⌜ r ≡ chosenOf (c .refused) (c .choice) ⌝ }
+{
+    let choice = c.choice;
+    match choice {
+        Choice::Of { irq, prio } => pair(c.refused, PAIR, irq as u64, prio as u64),
+        Choice::None => pair(c.refused, NONE, 0, 0),
+    }
 }

@@ -53,7 +53,3 @@ module _ (first second : List ℕ) (f : length first ≡ 32) (s : length second 
 -- a turn fewer is left
 pub one-fewer : (n : ℕ) → 0 < n → n - 1 < n
 one-fewer n h = omega arith
-
--- a glance that is not done has left the script as it was
-pub same-script : (b : Board) (queue script left icfg icfg1 acts : List ℕ) → left ≡ script → BenchOk (benchOf b queue script icfg icfg1 acts) → BenchOk (benchOf b queue left icfg icfg1 acts)
-same-script b queue script left icfg icfg1 acts e ok = subst (λ (s : List ℕ). BenchOk (benchOf b queue s icfg icfg1 acts)) (sym e) ok

@@ -1,12 +1,10 @@
 // Document 01's driver: records from standard input, carried out on a new 240 MHz board, a line each on standard output. It ends with its input, or with `X` at a record that is broken or cut
-// off. Input streams through one buffer, so that its length does not matter, and lines wait in another. To carry a record out is `carry`, its line is `lines`; here they are put together. The loop
-// knows its board whole (`BenchOk`), so that `glance` and `quick` may be asked first.
+// off. Input streams through one buffer, so that its length does not matter, and lines wait in another. What a record does is `carry`, its line is `lines`; here they are put together. The loop
+// knows its board whole (`BenchOk`), so that `known` carries records out and tests nothing. The chip is a variable and the panel's arrays stay in theirs, so that no record copies the board.
 mod stream;
 
 use carry::Answer;
-use carry::carry as carry_out;
-use known::glance;
-use known::quick;
+use known::carried;
 use lines::put_line;
 use stream::Stream;
 use stream::fed;
@@ -56,7 +54,14 @@ fn run(
 )
     requires { ⌜ (length (now queue) ≡ 3125) × (length (now script) ≡ 512) × (length (now icfg) ≡ 32) × (length (now icfg1) ≡ 32) × (length (now acts) ≡ 4352) ⌝ }
 {
-    let mut b = board::made(RATE, QUEUE_BYTES, ENTRIES, icfg, icfg1).board;
+    let b = board::made(RATE, QUEUE_BYTES, ENTRIES, icfg, icfg1).board;
+    let mut c = b.chip;
+    let mut acc = b.panel.acc;
+    let mut t0 = b.panel.ramps.t0;
+    let mut dur = b.panel.ramps.dur;
+    let mut from = b.panel.ramps.from;
+    let mut toward = b.panel.ramps.to;
+    let mut values = b.panel.values;
     let mut s = stream::start();
     let mut to: usize = 0;
     let mut turns = u64::MAX;
@@ -65,38 +70,29 @@ fn run(
         s = fed(input, s);
         let found = find(input, s);
         s = passed(s, found);
-        let g = glance(b, found, queue, script, icfg, icfg1, acts);
-        if g.done {
-            let ring = g.ring;
-            let adc = g.adc;
-            b.chip.clock.cycles = g.clock;
-            b.chip.clock.next_due = g.due;
-            b.chip.script.at = ring.at;
-            b.chip.script.place = ring.place;
-            b.chip.script.count = ring.count;
-            b.chip.adc.con = adc.con;
-            b.chip.adc.noise = adc.noise;
-            b.chip.adc.done = adc.done;
-            b.chip.adc.irq = adc.irq;
-            b.chip.adc.sample = adc.sample;
-            let answer = g.answer;
+        let o = carried(
+            c,
+            &mut acc,
+            &mut t0,
+            &mut dur,
+            &mut from,
+            &mut toward,
+            &mut values,
+            found,
+            queue,
+            script,
+            icfg,
+            icfg1,
+            acts,
+        );
+        let d = o.chip;
+        c = d;
+        let answer = o.answer;
+        if ends(answer) {
+            turns = 0;
             to = told(out, to, answer);
-            if ends(answer) {
-                turns = 0;
-            }
         } else {
-            let q = quick(b, found, queue, script, icfg, icfg1, acts);
-            let chip = q.chip;
-            b.chip = chip;
-            if q.done {
-                let answer = q.answer;
-                to = told(out, to, answer);
-            } else {
-                let c = carry_out(b, found, queue, script, icfg, icfg1, acts);
-                let answer = c.answer;
-                b = c.board;
-                to = told(out, to, answer);
-            }
+            to = told(out, to, answer);
         }
     }
     flush(out, to);

@@ -1,3 +1,4 @@
 pub mod Right
-pub mod Steps
+pub mod Turns
+pub mod Served
 pub mod Ends

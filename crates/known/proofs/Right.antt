@@ -1,195 +1,162 @@
--- A quick answer is the record's: a push, a read, a conversion, a write.
-use mathlib.Core.Path.{_≡_, refl, sym, _∙_, ap, subst}
-use mathlib.Core.Bool.{Bool, true, false, cond, _&&_, _||_, true≢false, false≢true}
+-- What is worked out of the chip and the lent arrays is the record's: a push, a read, a write.
+use mathlib.Core.Path.{_≡_, refl, sym, _∙_, ap}
+use mathlib.Core.Bool.{Bool, true, false, cond}
 use mathlib.Core.List.{List}
-use Prim.Native.Nat.{ℕ}
-use borrow.Author.Tests.{eqb-true}
-use lib.Dec.{eqb}
-use lib.ListN.{length}
+use Prim.Native.Nat.{ℕ, _+_, _*_, _≤_}
+use native.Mathlib.Omega.{arith}
+use borrow.Author.Tests.{le-ltb}
+use lib.Dec.{eqb, ltb}
+use lib.ListN.{length, set}
 use Rattle.adc.specs.Adc.{conWritten}
 use Rattle.adc.specs.declared.Wrote.{Wrote as Conversion}
 use Rattle.base.specs.Bits.{unlessOf}
+use Rattle.base.specs.Moments.{clockMax}
 use Rattle.board.specs.Calls.{readChip, readCall, writeCall, writeFirst, writeSecond}
 use Rattle.board.specs.declared.Written.{Written}
 use Rattle.carry.proofs.Calls.{banks-left, read-left, spot-full, spot-room}
 use Rattle.carry.specs.Carry.{Agrees, pushed, readBy, wroteBy}
-use Rattle.carry.specs.declared.Answer.the-variants.{Pushed, Read, Wrote}
+use Rattle.carry.specs.declared.Answer.the-variants.{Pushed, Read, Wrote, Refused}
 use Rattle.carry.specs.declared.Carried.{Carried}
 use Rattle.irq.specs.Banks.{bankWords}
-use Rattle.panel.specs.Led.{creditedTimes}
 use Rattle.panel.specs.Map.{fm1Map}
-use Rattle.panel.specs.Pins.{charges}
-use Rattle.panel.specs.declared.pins.Pins.{Pins}
-use Rattle.regs.specs.Reads.{readOf, pollsAt}
-use Rattle.regs.specs.Writes.{handledAt, lightsAt, timesWritten, firstWritten, secondWritten, chipWritten, adcWritten, boardWritten}
-use Rattle.script.specs.Script.{pushedOf as ringPushed, fullOf}
-use Rattle.state.specs.Whole.{Typed, Whole}
-use Rattle.state.specs.With.{withChip}
+use Rattle.panel.specs.declared.map.Map.{Map}
+use Rattle.regs.proofs.Kept.{poll-kept}
+use Rattle.regs.specs.Reads.{readOf, pollsAt, polledOf}
+use Rattle.regs.specs.Writes.{handledAt, timesWritten, firstWritten, secondWritten, chipWritten, adcWritten, boardWritten}
+use Rattle.script.specs.Script.{fullOf, spotOf, pushedOf as ringPushed}
+use Rattle.state.specs.Whole.{Typed, Whole, ChipOk}
+use Rattle.state.specs.With.{withChip, withScript, withAdc, dueAt, dueNow}
 use Rattle.state.specs.declared.Board.{Board}
-use Rattle.step.specs.Stages.{nowOf}
-use Rattle.known.specs.Quick.{seenOf, unseenOf, glancePush, glanceRead, glanceWrite, notYet, toldBy, outcomeOf, beyond, quickWrite, quickFirst, quickSecond}
-use Rattle.known.specs.declared.glances.Sight.{Sight}
-use Rattle.known.specs.declared.quickly.Outcome.{Outcome}
+use Rattle.state.specs.declared.Chip.{Chip}
+use Rattle.state.specs.declared.Panel.{Panel}
+use Rattle.step.specs.Apply.{boardOf}
+use Rattle.words.specs.Words.{spotIn, storedWords}
+use Rattle.known.specs.Known.{Part, toldBy, pushOut, pushWords, readOut}
+use Rattle.known.specs.declared.Outcome.{Outcome}
+
+-- what the code's types say of a board, a whole one has by itself
+pub whole-typed : (b : Board) → Whole b → Typed b
+whole-typed b w =
+    let k = w .sound .chip in
+    record {
+      hz = omega (arith, k .clock .high);
+      t5 = k .t5 .prd;
+      tmr = λ i h. k .tmr i h .prd;
+      tmrs = k .tmrs;
+      otcnt = k .uart .otcnt;
+      encs = k .encs;
+      ramps = w .sound .sized;
+      forces = λ i h. (w .sound .ramps i h .from .held, w .sound .ramps i h .to .held);
+    }
 
 -- ---- a push
 
-module _ (b : Board) (t : Typed b) (ws : List ℕ) (w : Whole b) (a : Agrees b ws) (time : ℕ) where
-  -- the quick answer's chip and words are the push's
-  abbrev Right : Outcome → Type 0
-  Right q = (withChip b (q .chip) ≡ pushed b ws time .board) × (q .answer ≡ pushed b ws time .answer) × (q .done ≡ true)
+module _ (b : Board) (ws : List ℕ) (w : Whole b) (a : Agrees b ws) (time word : ℕ) where
+  abbrev RightPush : Outcome → List ℕ → Type 0
+  RightPush q l =
+      (withChip b (q .chip) ≡ pushed b ws time .board) × (q .answer ≡ pushed b ws time .answer) × (l ≡ storedWords (spotIn b ws time) ws time word)
 
-  pub push-right : Right (outcomeOf b (glancePush b time))
-  unfolding glancePush
+  pub push-right : RightPush (pushOut (b .chip) time) (pushWords (b .chip) ws time word)
+  unfolding pushOut
   push-right = go (fullOf (b .chip .script)) refl
     where
-      more : Sight
-      more = record { clock = nowOf (b .chip); due = 0; ring = ringPushed (b .chip .script) time; adc = b .chip .adc; answer = Pushed 0; done = true }
+      s : ℕ
+      s = spotOf (b .chip .script)
 
-      go : (f : Bool) → fullOf (b .chip .script) ≡ f → Right (outcomeOf b (cond f (seenOf b (nowOf (b .chip)) (Pushed 5)) more))
-      go true f = rw (spot-full b t ws w a time f) (refl, refl, refl)
-      go false f = rw (spot-room b t ws w a time f) (refl, refl, refl)
+      go : (f : Bool) → fullOf (b .chip .script) ≡ f
+          → RightPush (cond f (toldBy (b .chip) (Pushed 5)) (toldBy (dueNow (withScript (b .chip) (ringPushed (b .chip .script) time))) (Pushed 0))) (cond f ws (set (set ws (2 * s) time) (2 * s + 1) word))
+      go true f = rw (spot-full b (whole-typed b w) ws w a time f) (refl, refl, refl)
+      go false f = rw (spot-room b (whole-typed b w) ws w a time f) (refl, refl, refl)
 
--- ---- registers
+-- ---- a read
 
-module _ (b : Board) (t : Typed b) (w : Whole b) (first second : List ℕ) (f : length first ≡ bankWords) (s : length second ≡ bankWords) (addr : ℕ) where
+-- the chip that a read finds is sound, where its clock has not passed its end
+polled-kept : (c : Chip) → Part c → polledOf c .clock .cycles ≤ clockMax → ChipOk (polledOf c)
+unfolding polledOf
+polled-kept c p m = poll-kept (boardOf c (p .panel)) (p .whole) m .sound .chip
+
+pub found-kept : (c : Chip) → Part c → (addr : ℕ) → readChip c addr .clock .cycles ≤ clockMax → ChipOk (readChip c addr)
+unfolding readChip
+found-kept c p addr = go (pollsAt c addr)
+  where
+    go : (x : Bool) → cond x (polledOf c) c .clock .cycles ≤ clockMax → ChipOk (cond x (polledOf c) c)
+    go true m = polled-kept c p m
+    go false m = p .whole .sound .chip
+
+module _ (b : Board) (w : Whole b) (first second : List ℕ) (f : length first ≡ bankWords) (s : length second ≡ bankWords) (addr : ℕ) where
+  abbrev RightRead : Outcome → Type 0
+  RightRead q = (withChip b (q .chip) ≡ readBy b addr first second .board) × (q .answer ≡ readBy b addr first second .answer)
+
+  late-read : pollsAt (b .chip) addr ≡ true → ltb clockMax (polledOf (b .chip) .clock .cycles) ≡ true
+      → readBy b addr first second ≡ record { board = b; answer = Refused 7 }
+  unfolding readCall
+  late-read e l = rw (read-left b (whole-typed b w) w (length first) (length second) f s addr, e, l)
+
+  poll-read : pollsAt (b .chip) addr ≡ true → ltb clockMax (polledOf (b .chip) .clock .cycles) ≡ false
+      → readBy b addr first second ≡ record { board = withChip b (polledOf (b .chip)); answer = Read addr (readOf (polledOf (b .chip)) first second addr) }
+  unfolding readCall readChip
+  poll-read e l = rw (read-left b (whole-typed b w) w (length first) (length second) f s addr, e, l)
+
   plain-read : pollsAt (b .chip) addr ≡ false → readBy b addr first second ≡ record { board = b; answer = Read addr (readOf (b .chip) first second addr) }
   unfolding readCall readChip
-  plain-read e = rw (read-left b t w (length first) (length second) f s addr, e)
+  plain-read e = rw (read-left b (whole-typed b w) w (length first) (length second) f s addr, e)
 
-  abbrev seenRead : Bool → Outcome
-  seenRead p = outcomeOf b (cond p (unseenOf b) (seenOf b (nowOf (b .chip)) (Read addr (readOf (b .chip) first second addr))))
+  abbrev chosen : Chip → Bool → Outcome
+  chosen c late = cond late (toldBy (b .chip) (Refused 7)) (toldBy c (Read addr (readOf c first second addr)))
 
-  pub right-read : outcomeOf b (glanceRead b addr first second) .done ≡ true
-      → (withChip b (outcomeOf b (glanceRead b addr first second) .chip) ≡ readBy b addr first second .board)
-      × (outcomeOf b (glanceRead b addr first second) .answer ≡ readBy b addr first second .answer)
-  unfolding glanceRead
-  right-read = go (pollsAt (b .chip) addr) refl
+  by : (q : Outcome) (r : Carried) → readBy b addr first second ≡ r → withChip b (q .chip) ≡ r .board → q .answer ≡ r .answer → RightRead q
+  by q r e p a = (p ∙ sym (ap (λ (x : Carried). x .board) e), a ∙ sym (ap (λ (x : Carried). x .answer) e))
+
+  pub read-right : RightRead (readOut (b .chip) addr first second)
+  unfolding readOut readChip
+  read-right = go (pollsAt (b .chip) addr) refl
     where
-      go : (p : Bool) → pollsAt (b .chip) addr ≡ p → seenRead p .done ≡ true
-          → (withChip b (seenRead p .chip) ≡ readBy b addr first second .board) × (seenRead p .answer ≡ readBy b addr first second .answer)
-      go true e done = absurd (false≢true done)
-      go false e done = (sym (ap (λ (x : Carried). x .board) (plain-read e)), sym (ap (λ (x : Carried). x .answer) (plain-read e)))
+      polls : (late : Bool) → pollsAt (b .chip) addr ≡ true → ltb clockMax (polledOf (b .chip) .clock .cycles) ≡ late → RightRead (chosen (polledOf (b .chip)) late)
+      polls true e l = by _ _ (late-read e l) refl refl
+      polls false e l = by _ _ (poll-read e l) refl refl
 
--- a write that is not beyond the chip leaves the LEDs' times
-or-false : (x y : Bool) → (x || y) ≡ false → (x ≡ false) × (y ≡ false)
-or-false false false e = (refl, refl)
-or-false false true e = absurd (true≢false e)
-or-false true y e = absurd (true≢false e)
+      within : ltb clockMax (b .chip .clock .cycles) ≡ false
+      within = le-ltb clockMax (b .chip .clock .cycles) (w .sound .chip .clock .cycles)
 
-module _ (pins : Pins) (addr now : ℕ) (e : beyond pins addr now ≡ false) where
-  parts : (eqb addr 0x13100 ≡ false) × ((lightsAt addr && charges pins now) ≡ false)
-  unfolding beyond
-  parts = or-false (eqb addr 0x13100) (lightsAt addr && charges pins now) e
+      plain : pollsAt (b .chip) addr ≡ false → RightRead (chosen (b .chip) (ltb clockMax (b .chip .clock .cycles)))
+      plain e = rw within (by (chosen (b .chip) false) _ (plain-read e) refl refl)
 
-  same-times : (acc : List ℕ) → timesWritten pins addr now acc ≡ acc
-  unfolding timesWritten creditedTimes
-  same-times acc = go (lightsAt addr) (charges pins now) _ (parts .1)
-    where
-      go : (x y : Bool) (l : List ℕ) → (x && y) ≡ false → cond x (cond y l acc) acc ≡ acc
-      go true true l z = absurd (true≢false z)
-      go true false l z = refl
-      go false y l z = refl
+      go : (x : Bool) → pollsAt (b .chip) addr ≡ x
+          → RightRead (chosen (cond x (polledOf (b .chip)) (b .chip)) (ltb clockMax (cond x (polledOf (b .chip)) (b .chip) .clock .cycles)))
+      go true e = polls (ltb clockMax (polledOf (b .chip) .clock .cycles)) e refl
+      go false e = plain e
 
--- a write of the converter leaves the banks
-same-first : (bank : List ℕ) (addr v : ℕ) → addr ≡ 0x13100 → firstWritten bank addr v ≡ bank
-unfolding firstWritten
-same-first bank addr v is = subst (λ (a : ℕ). firstWritten bank a v ≡ bank) (sym is) refl
+-- ---- a write
 
-same-second : (bank : List ℕ) (addr v : ℕ) → addr ≡ 0x13100 → secondWritten bank addr v ≡ bank
-unfolding secondWritten
-same-second bank addr v is = subst (λ (a : ℕ). secondWritten bank a v ≡ bank) (sym is) refl
-
-module _ (b : Board) (t : Typed b) (w : Whole b) (first second : List ℕ) (f : length first ≡ bankWords) (s : length second ≡ bankWords) (addr v : ℕ) where
-  abbrev pins : Pins
-  pins = b .chip .pins
-
-  abbrev now : ℕ
-  now = nowOf (b .chip)
-
-  accepted-write : writeCall b addr v (length first) (length second) ≡ record { board = boardWritten b addr v; refused = 0; handled = handledAt addr }
+module _ (b : Board) (w : Whole b) (first second : List ℕ) (f : length first ≡ bankWords) (s : length second ≡ bankWords) (addr v : ℕ) where
+  accepted : writeCall b addr v (length first) (length second) ≡ record { board = boardWritten b addr v; refused = 0; handled = handledAt addr }
   unfolding writeCall
-  accepted-write = rw (banks-left b t w (length first) (length second) f s)
+  accepted = rw (banks-left b (whole-typed b w) w (length first) (length second) f s)
 
-  accepted-first : writeFirst b addr v first second ≡ firstWritten first addr v
+  pub write-first : writeFirst b addr v first second ≡ firstWritten first addr v
   unfolding writeFirst
-  accepted-first = rw (banks-left b t w (length first) (length second) f s)
+  write-first = rw (banks-left b (whole-typed b w) w (length first) (length second) f s)
 
-  accepted-second : writeSecond b addr v first second ≡ secondWritten second addr v
+  pub write-second : writeSecond b addr v first second ≡ secondWritten second addr v
   unfolding writeSecond
-  accepted-second = rw (banks-left b t w (length first) (length second) f s)
+  write-second = rw (banks-left b (whole-typed b w) w (length first) (length second) f s)
 
-  wrote : wroteBy b addr v first second ≡ record { board = boardWritten b addr v; answer = Wrote addr v (handledAt addr) }
-  wrote = ap (λ (x : Written). record { board = x .board; answer = Wrote addr v (x .handled) }) accepted-write
+  pub wrote : wroteBy b addr v first second ≡ record { board = boardWritten b addr v; answer = Wrote addr v (handledAt addr) }
+  wrote = ap (λ (x : Written). record { board = x .board; answer = Wrote addr v (x .handled) }) accepted
 
-  chip-alone : beyond pins addr now ≡ false → boardWritten b addr v ≡ withChip b (chipWritten (b .chip) addr v)
+-- the board that a write leaves, by what was written: the converter, or the LEDs' times and the chip
+module _ (c : Chip) (p : Panel) (addr v : ℕ) where
+  pub convert-right : eqb addr 0x13100 ≡ true → (m : Map) → m ≡ fm1Map
+      → (x : Conversion) → x ≡ conWritten (c .adc) m (c .pins) (p .ramps) (p .values) (c .clock .cycles) v
+      → (due : ℕ) → due ≡ unlessOf (x .due) (c .clock .«next_due»)
+      → boardOf (withAdc (dueAt c due) (x .adc)) p ≡ boardWritten (boardOf c p) addr v
+  unfolding boardWritten adcWritten
+  convert-right e m is x con due d = rw (e, d, con, is)
+
+  pub written-right : eqb addr 0x13100 ≡ false → (acc : List ℕ) → acc ≡ timesWritten (c .pins) addr (c .clock .cycles) (p .acc) → (d : Chip) → d ≡ chipWritten c addr v → (q : Outcome) → q .chip ≡ d
+      → boardOf (q .chip) (record { acc = acc; ramps = p .ramps; values = p .values }) ≡ boardWritten (boardOf c p) addr v
   unfolding boardWritten
-  chip-alone e = rw (parts pins addr now e .0, same-times pins addr now e (b .panel .acc))
+  written-right e acc l d is q told = rw (e, l, told, is)
 
-  converter-alone : eqb addr 0x13100 ≡ true → boardWritten b addr v ≡ withChip b (adcWritten (b .chip) (b .panel .ramps) (b .panel .values) v)
-  unfolding boardWritten
-  converter-alone e = rw e
-
-  -- the board, the answer, both banks
-  abbrev RightWrite : Outcome → List ℕ → List ℕ → Type 0
-  RightWrite q first′ second′ =
-      (withChip b (q .chip) ≡ wroteBy b addr v first second .board) × (q .answer ≡ wroteBy b addr v first second .answer)
-      × (first′ ≡ writeFirst b addr v first second) × (second′ ≡ writeSecond b addr v first second)
-
-  pub right-convert : outcomeOf b (glanceWrite b addr v) .done ≡ true → RightWrite (outcomeOf b (glanceWrite b addr v)) first second
-  unfolding glanceWrite adcWritten
-  right-convert = go (eqb addr 0x13100) refl
-    where
-      conversion : Conversion
-      conversion = conWritten (b .chip .adc) fm1Map pins (b .panel .ramps) (b .panel .values) now v
-
-      sight : Sight
-      sight = record {
-        clock = now;
-        due = unlessOf (conversion .due) (b .chip .clock .«next_due»);
-        ring = b .chip .script;
-        adc = conversion .adc;
-        answer = Wrote addr v (handledAt addr);
-        done = true;
-      }
-
-      go : (x : Bool) → eqb addr 0x13100 ≡ x → outcomeOf b (cond x sight (unseenOf b)) .done ≡ true → RightWrite (outcomeOf b (cond x sight (unseenOf b))) first second
-      go false e done = absurd (false≢true done)
-      go true e done = (
-        sym (ap (λ (x : Carried). x .board) wrote ∙ converter-alone e),
-        sym (ap (λ (x : Carried). x .answer) wrote),
-        sym (accepted-first ∙ same-first first addr v (eqb-true addr 0x13100 e)),
-        sym (accepted-second ∙ same-second second addr v (eqb-true addr 0x13100 e)),
-      )
-
-  pub right-write : quickWrite b addr v .done ≡ true → RightWrite (quickWrite b addr v) (quickFirst b addr v first) (quickSecond b addr v second)
-  unfolding quickWrite
-  right-write = go (beyond pins addr now) refl
-    where
-      slow : Outcome
-      slow = notYet (b .chip)
-
-      fast : Outcome
-      fast = toldBy (chipWritten (b .chip) addr v) (Wrote addr v (handledAt addr))
-
-      go : (x : Bool) → beyond pins addr now ≡ x → cond x slow fast .done ≡ true
-          → RightWrite (cond x slow fast) (cond x first (firstWritten first addr v)) (cond x second (secondWritten second addr v))
-      go true e done = absurd (false≢true done)
-      go false e done = (
-        sym (ap (λ (x : Carried). x .board) wrote ∙ chip-alone e),
-        sym (ap (λ (x : Carried). x .answer) wrote),
-        sym accepted-first,
-        sym accepted-second,
-      )
-
-  pub left-write : quickWrite b addr v .done ≡ false
-      → (quickWrite b addr v .chip ≡ b .chip) × (quickFirst b addr v first ≡ first) × (quickSecond b addr v second ≡ second)
-  unfolding quickWrite
-  left-write = go (beyond pins addr now)
-    where
-      fast : Outcome
-      fast = toldBy (chipWritten (b .chip) addr v) (Wrote addr v (handledAt addr))
-
-      go : (x : Bool) → cond x (notYet (b .chip)) fast .done ≡ false
-          → (cond x (notYet (b .chip)) fast .chip ≡ b .chip) × (cond x first (firstWritten first addr v) ≡ first) × (cond x second (secondWritten second addr v) ≡ second)
-      go true done = (refl, refl, refl)
-      go false done = absurd (true≢false done)
+pub told-write : (q : Outcome) (c : Chip) (addr v : ℕ) (is : Bool) → q ≡ toldBy c (Wrote addr v is) → is ≡ handledAt addr → q .answer ≡ Wrote addr v (handledAt addr)
+told-write q c addr v is e h = ap (λ (x : Outcome). x .answer) e ∙ ap (Wrote addr v) h

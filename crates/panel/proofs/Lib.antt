@@ -8,3 +8,4 @@ pub mod Bytes
 pub mod Held
 pub mod RowsRead
 pub mod Contacts
+pub mod Presses

@@ -24,6 +24,10 @@ keysNew = record { down = 0; vel = 100 }
 abbrev pub rampsNew : Ramps
 rampsNew = record { t0 = replicate 41 0; dur = replicate 41 0; from = replicate 41 zero32; to = replicate 41 zero32 }
 
+-- the record of four arrays
+abbrev pub rampsOf : List ℕ → List ℕ → List Float → List Float → Ramps
+rampsOf t0 dur from to = record { t0 = t0; dur = dur; from = from; to = to }
+
 -- key i's ramp
 abbrev pub rampOf : Ramps → ℕ → Ramp
 rampOf rs i =
@@ -44,6 +48,13 @@ velWritten k vel = record { down = k .down; vel = min (max vel 1) 127 }
 -- "Which ids are buttons: below 14"; they land at 1, a note key at its velocity's force
 abbrev pub landingOf : Keys → ℕ → Float
 landingOf k id = cond (ltb id 14) one32 (velForce (k .vel))
+
+-- the force that a key goes to, and in which time: a press lands in 1.5 ms, a release lifts in 8 ms
+abbrev pub goalOf : Keys → ℕ → Bool → Float
+goalOf k id down = cond down (landingOf k id) zero32
+
+abbrev pub timeOf : Bool → RampTime
+timeOf down = cond down Press Release
 
 abbrev pub toggled : Keys → ℕ → Keys
 toggled k id = record { down = bitXor (k .down) (2 ^ id); vel = k .vel }

@@ -1,5 +1,5 @@
 // The keys: which are down, how hard the next will land, and the force on each, a ramp (crate pressure). The ramps are kept as an array a field, which a
-// test of the whole record goes through at a third of the cost; `Ramps::ramp` is a key's.
+// test of the whole record goes through at a third of the cost; `ramp_at` is a key's. `key_in` and `pressure_in` turn them where they are kept, so that no array is copied.
 use crate::led::times_whole;
 use crate::matrix::is_down;
 use base::least;
@@ -16,13 +16,13 @@ ghost use Rattle.panel.specs.Led.{upTo};
 ghost use Rattle.panel.specs.Keys.{
   keysNew,
   rampsNew,
+  rampsOf,
   rampOf,
-  withRamp,
   turnedRamps,
   velWritten,
   landingOf,
-  pressOf,
-  releaseOf,
+  goalOf,
+  timeOf,
   keyOf,
   pressureOf,
   forces,
@@ -65,48 +65,6 @@ impl Ramps {
         }
     }
 
-    // Key i's.
-    pub fn ramp(self, i: usize) -> Ramp
-        requires { ⌜ i < 41 ⌝ }
-        ensures { λ r. ⌜ r ≡ rampOf self i ⌝ }
-    {
-        Ramp {
-            from: self.from[i],
-            to: self.to[i],
-            t0: self.t0[i],
-            dur: self.dur[i] as u64,
-        }
-    }
-
-    fn with(self, i: usize, r: Ramp) -> Self
-        requires { ⌜ (i < 41) × (r .dur < 2 ^ 32) ⌝ }
-        ensures { λ q. ⌜ q ≡ withRamp self i r ⌝ }
-    {
-        let mut t0 = self.t0;
-        let mut dur = self.dur;
-        let mut from = self.from;
-        let mut to = self.to;
-        t0[i] = r.t0;
-        dur[i] = r.dur as u32;
-        from[i] = r.from;
-        to[i] = r.to;
-        Ramps {
-            t0: t0,
-            dur: dur,
-            from: from,
-            to: to,
-        }
-    }
-
-    // Key i goes on to another force.
-    fn turned(self, i: usize, now: u64, to: f32, time: RampTime, hz: u32) -> Self
-        requires { ⌜ (i < 41) × RampsShort self ⌝ }
-        ensures { λ r. ⌜ r ≡ turnedRamps self i now to time hz ⌝ }
-    {
-        let r = self.ramp(i).turned(now, to, ms_cycles(time, hz).0);
-        self.with(i, r)
-    }
-
     // Their part of a whole record.
     pub fn whole(self, now: u64, hz: u32) -> bool
         ensures { λ r. ⌜ r ≡ rampsWhole self now hz ⌝ }
@@ -117,6 +75,47 @@ impl Ramps {
         let g = forces_whole(&self.to);
         t & d & f & g
     }
+}
+
+// Key i's ramp, out of the arrays that hold all of them.
+pub fn ramp_at(t0: &[u64; 41], dur: &[u32; 41], from: &[f32; 41], to: &[f32; 41], i: usize) -> Ramp
+    requires { ⌜ i < 41 ⌝ }
+    ensures { λ r. ⌜ r ≡ rampOf (rampsOf (now (t0 .entry)) (now (dur .entry)) (now (from .entry)) (now (to .entry))) i ⌝ }
+{
+    Ramp {
+        from: from[i],
+        to: to[i],
+        t0: t0[i],
+        dur: wide(dur[i]),
+    }
+}
+
+fn wide(n: u32) -> u64
+    ensures { λ r. ⌜ r ≡ n ⌝ }
+{
+    n as u64
+}
+
+// Key i goes on to another force.
+fn turn_in(
+    t0: &mut [u64; 41],
+    dur: &mut [u32; 41],
+    from: &mut [f32; 41],
+    to: &mut [f32; 41],
+    i: usize,
+    now: u64,
+    force: f32,
+    time: RampTime,
+    hz: u32,
+)
+    requires { ⌜ (i < 41) × RampsShort (rampsOf (t0 .now) (dur .now) (from .now) (to .now)) ⌝ }
+    ensures { λ _. ⌜ rampsOf (t0 .exit .now) (dur .exit .now) (from .exit .now) (to .exit .now) ≡ turnedRamps (rampsOf (t0 .entry .now) (dur .entry .now) (from .entry .now) (to .entry .now)) i now force time hz ⌝ }
+{
+    let r = ramp_at(t0, dur, from, to, i).turned(now, force, ms_cycles(time, hz).0);
+    t0[i] = r.t0;
+    dur[i] = r.dur as u32;
+    from[i] = r.from;
+    to[i] = r.to;
 }
 
 // Whether each ramp lasts at most that long.
@@ -170,51 +169,87 @@ impl Keys {
         vel_force(self.vel as u8)
     }
 
-    fn press(mut self, ramps: Ramps, id: u8, now: u64, hz: u32) -> Pressed
-        requires { ⌜ (self .vel ≤ 127) × RampsShort ramps ⌝ }
-        ensures { λ r. ⌜ r ≡ pressOf self ramps id now hz ⌝ }
+    // The force that a key goes to, pressed or released.
+    fn goal(self, id: u8, down: bool) -> f32
+        requires { ⌜ self .vel ≤ 127 ⌝ }
+        ensures { λ r. ⌜ r ≡ goalOf self id down ⌝ }
     {
-        if 41 <= id {
-            return Pressed {
-                keys: self,
-                ramps: ramps,
-            };
+        if down {
+            return self.landing(id);
         }
-        if is_down(self.down, id) {
-            return Pressed {
-                keys: self,
-                ramps: ramps,
-            };
-        }
-        let r = ramps.turned(id as usize, now, self.landing(id), RampTime::Press, hz);
-        self.down = self.down ^ (1u64 << id);
-        Pressed {
-            keys: self,
-            ramps: r,
-        }
+        0.0
     }
 
-    fn release(mut self, ramps: Ramps, id: u8, now: u64, hz: u32) -> Pressed
-        requires { ⌜ RampsShort ramps ⌝ }
-        ensures { λ r. ⌜ r ≡ releaseOf self ramps id now hz ⌝ }
+    // `key` on the arrays in place.
+    pub fn key_in(
+        mut self,
+        t0: &mut [u64; 41],
+        dur: &mut [u32; 41],
+        from: &mut [f32; 41],
+        to: &mut [f32; 41],
+        id: u8,
+        down: bool,
+        now: u64,
+        hz: u32,
+    ) -> Self
+        requires { ⌜ (self .vel ≤ 127) × RampsShort (rampsOf (t0 .now) (dur .now) (from .now) (to .now)) ⌝ }
+        ensures { λ r. ⌜ (r ≡ keyOf self (rampsOf (t0 .entry .now) (dur .entry .now) (from .entry .now) (to .entry .now)) id down now hz .keys)
+            × (rampsOf (t0 .exit .now) (dur .exit .now) (from .exit .now) (to .exit .now) ≡ keyOf self (rampsOf (t0 .entry .now) (dur .entry .now) (from .entry .now) (to .entry .now)) id down now hz .ramps) ⌝ }
     {
         if 41 <= id {
-            return Pressed {
-                keys: self,
-                ramps: ramps,
-            };
+            return self;
+        }
+        if is_down(self.down, id) == down {
+            return self;
+        }
+        turn_in(
+            t0,
+            dur,
+            from,
+            to,
+            id as usize,
+            now,
+            self.goal(id, down),
+            time_of(down),
+            hz,
+        );
+        self.down = self.down ^ (1u64 << id);
+        self
+    }
+
+    // `pressure` on the arrays in place.
+    pub fn pressure_in(
+        self,
+        t0: &mut [u64; 41],
+        dur: &mut [u32; 41],
+        from: &mut [f32; 41],
+        to: &mut [f32; 41],
+        id: u8,
+        vel: u8,
+        now: u64,
+        hz: u32,
+    )
+        requires { ⌜ RampsShort (rampsOf (t0 .now) (dur .now) (from .now) (to .now)) ⌝ }
+        ensures { λ _. ⌜ rampsOf (t0 .exit .now) (dur .exit .now) (from .exit .now) (to .exit .now) ≡ pressureOf self (rampsOf (t0 .entry .now) (dur .entry .now) (from .entry .now) (to .entry .now)) id vel now hz ⌝ }
+    {
+        if id < 14 {
+            return;
+        }
+        if 41 <= id {
+            return;
         }
         if is_down(self.down, id) {
-            let r = ramps.turned(id as usize, now, 0.0, RampTime::Release, hz);
-            self.down = self.down ^ (1u64 << id);
-            return Pressed {
-                keys: self,
-                ramps: r,
-            };
-        }
-        Pressed {
-            keys: self,
-            ramps: ramps,
+            turn_in(
+                t0,
+                dur,
+                from,
+                to,
+                id as usize,
+                now,
+                vel_force(vel),
+                RampTime::Pressure,
+                hz,
+            );
         }
     }
 
@@ -223,10 +258,20 @@ impl Keys {
         requires { ⌜ (self .vel ≤ 127) × RampsShort ramps ⌝ }
         ensures { λ r. ⌜ r ≡ keyOf self ramps id down now hz ⌝ }
     {
-        if down {
-            return self.press(ramps, id, now, hz);
+        let mut t0 = ramps.t0;
+        let mut dur = ramps.dur;
+        let mut from = ramps.from;
+        let mut to = ramps.to;
+        let keys = self.key_in(&mut t0, &mut dur, &mut from, &mut to, id, down, now, hz);
+        Pressed {
+            keys: keys,
+            ramps: Ramps {
+                t0: t0,
+                dur: dur,
+                from: from,
+                to: to,
+            },
         }
-        self.release(ramps, id, now, hz)
     }
 
     // Action Pressure: a note key that is held goes to another force.
@@ -234,16 +279,17 @@ impl Keys {
         requires { ⌜ RampsShort ramps ⌝ }
         ensures { λ r. ⌜ r ≡ pressureOf self ramps id vel now hz ⌝ }
     {
-        if id < 14 {
-            return ramps;
+        let mut t0 = ramps.t0;
+        let mut dur = ramps.dur;
+        let mut from = ramps.from;
+        let mut to = ramps.to;
+        self.pressure_in(&mut t0, &mut dur, &mut from, &mut to, id, vel, now, hz);
+        Ramps {
+            t0: t0,
+            dur: dur,
+            from: from,
+            to: to,
         }
-        if 41 <= id {
-            return ramps;
-        }
-        if is_down(self.down, id) {
-            return ramps.turned(id as usize, now, vel_force(vel), RampTime::Pressure, hz);
-        }
-        ramps
     }
 
     // Its part of a whole record.
@@ -252,4 +298,13 @@ impl Keys {
     {
         (1 <= self.vel) & (self.vel <= 127)
     }
+}
+
+fn time_of(down: bool) -> RampTime
+    ensures { λ r. ⌜ r ≡ timeOf down ⌝ }
+{
+    if down {
+        return RampTime::Press;
+    }
+    RampTime::Release
 }

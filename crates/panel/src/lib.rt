@@ -1,6 +1,6 @@
 // The front panel around the chip: the port pins with the key matrix's shift register, the encoders, the matrix rows that they and the keys close,
 // the LEDs' light and the keys' forces. Which key or LED stands where is a `Map`, a parameter of every function that asks; `fm1()` is the FM-1's.
-// Each block is a record by value whose methods hand back the record after a moment, a register write or an action; the LED times are lent. `now` is
+// Each block is a record by value whose methods hand back the record after a moment, a register write or an action; the LED times are lent, and the keys' ramps may be (`key_in`). `now` is
 // the clock in cycles, `hz` its rate.
 mod encoder;
 mod keys;
@@ -18,6 +18,7 @@ pub use encoder::encs_whole;
 pub use keys::Keys;
 pub use keys::Pressed;
 pub use keys::Ramps;
+pub use keys::ramp_at;
 pub use led::Taken;
 pub use led::credit;
 pub use led::led_take;

@@ -77,6 +77,11 @@ tmrWritten t base addr v now hz =
     (cond (eqb addr (base + 4)) (tmrCntWritten t v now hz)
     (cond (eqb addr (base + 8)) (tmrPrdWritten t v now hz) t))
 
+-- the timer of a page of addresses
+unfoldable pub timerOn : List Tmr → ℕ → Tmr
+timerOn ts page =
+    cond (eqb page 0x104) (tmrOf ts 0) (cond (eqb page 0x105) (tmrOf ts 1) (cond (eqb page 0x106) (tmrOf ts 2) (tmrOf ts 3)))
+
 unfoldable pub tmrsWritten : List Tmr → ℕ → ℕ → ℕ → ℕ → List Tmr
 tmrsWritten ts addr v now hz =
     tmrWritten (tmrOf ts 0) 0x10400 addr v now hz ∷ tmrWritten (tmrOf ts 1) 0x10500 addr v now hz

@@ -15,6 +15,7 @@ use timers::Tick;
 use timers::Tmr;
 use uart::Uart;
 ghost use mathlib.Core.Path.{_≡_};
+ghost use mathlib.Core.Bool.{cond};
 ghost use Prim.Native.Nat.{_≤_, _<_};
 ghost use lib.ListN.{length};
 ghost use Rattle.base.specs.Moments.{clockMax};
@@ -27,6 +28,7 @@ ghost use Rattle.regs.specs.Writes.{
   wiresTake,
   handledAt,
   tmrWritten,
+  timerOn,
   tmrsWritten,
   t4Written,
   t5Written,
@@ -137,15 +139,50 @@ fn tmr_write(t: Tmr, base: u32, addr: u32, v: u32, now: u64, hz: u32) -> Tmr
     t
 }
 
+// The timer of a page, the last for a page of none.
+fn timer_on(t: [Tmr; 4], page: u32) -> Tmr
+    ensures { λ r. ⌜ r ≡ timerOn t page ⌝ }
+{
+    if page == 0x104 {
+        return t[0];
+    }
+    if page == 0x105 {
+        return t[1];
+    }
+    if page == 0x106 {
+        return t[2];
+    }
+    t[3]
+}
+
+fn put(t: Tmr, here: bool, x: Tmr) -> Tmr
+    ensures { λ r. ⌜ r ≡ cond here x t ⌝ }
+{
+    if here {
+        return x;
+    }
+    t
+}
+
+// One call writes whichever timer it is, so that it can be compiled in place; an address elsewhere is told by its page.
 fn tmrs_write(t: [Tmr; 4], addr: u32, v: u32, now: u64, hz: u32) -> [Tmr; 4]
     requires { ⌜ now ≤ clockMax ⌝ }
     ensures { λ r. ⌜ r ≡ tmrsWritten t addr v now hz ⌝ }
 {
+    let t0 = t[0];
+    let t1 = t[1];
+    let t2 = t[2];
+    let t3 = t[3];
+    if addr / 1024 != 0x41 {
+        return [t0, t1, t2, t3];
+    }
+    let page = addr / 256;
+    let x = tmr_write(timer_on(t, page), addr - addr % 256, addr, v, now, hz);
     [
-        tmr_write(t[0], 0x10400, addr, v, now, hz),
-        tmr_write(t[1], 0x10500, addr, v, now, hz),
-        tmr_write(t[2], 0x10600, addr, v, now, hz),
-        tmr_write(t[3], 0x10700, addr, v, now, hz),
+        put(t0, page == 0x104, x),
+        put(t1, page == 0x105, x),
+        put(t2, page == 0x106, x),
+        put(t3, page == 0x107, x),
     ]
 }
 

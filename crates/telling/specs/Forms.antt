@@ -11,7 +11,7 @@ use Rattle.text.specs.Spans.{bytesIn}
 use Rattle.text.specs.declared.Span.{Span}
 
 unfoldable pub forms : List ℕ
-forms = bytes "% %_-_-_%_%_% %_$/%_-_%_%_% %_-_$/&_%_%_% %_$/%_$/&_%_%_% $ %_% E_% none ? $_%_% none_%_% clock_%_due_%_skipped_%_halves_%_queued_%_dropped_%_script_%_wire_%_done_%_vel_% %_%_%_%_%_% wdt_% reset & @ "
+forms = bytes "% %_-_-_%_%_% %_$/%_-_%_%_% %_-_$/&_%_%_% %_$/%_$/&_%_%_% $ %_% E_% none ? $_%_% none_%_% clock_%_due_%_skipped_%_halves_%_queued_%_dropped_%_script_%_wire_%_done_%_vel_% %_%_%_%_%_% wdt_% reset & @ %_key_%_%_next_% %_enc_%_%_next_% %_enc_%_-%_next_% %_adc_%_%_next_% %_midi_%_next_% %_vel_%_next_% %_pressure_%_%_next_% read_%_next_% write_%_%_next_% step_%_next_% broken_% end %_key_%_%_next_%_* %_enc_%_%_next_%_* %_enc_%_-%_next_%_* %_adc_%_%_next_%_* %_midi_%_next_%_* %_vel_%_next_%_* %_pressure_%_%_next_%_* read_%_next_%_* write_%_%_next_%_* step_%_next_%_* "
 
 -- where the part of that number stands in a list from place `at` on, of which a part begins at `from`; a space ends each
 unfoldable pub partFrom : List ℕ → ℕ → ℕ → ℕ → Span

@@ -15,7 +15,7 @@ pub fn put_form(out: &mut [u8], to: usize, form: usize, numbers: &[u64; 10]) -> 
     ensures bytes { λ r. ⌜ now (out .exit) ≡ putAll (now (out .entry)) to (formText form (now (numbers .entry))) ⌝ }
 {
     let forms =
-        b"% %_-_-_%_%_% %_$/%_-_%_%_% %_-_$/&_%_%_% %_$/%_$/&_%_%_% $ %_% E_% none ? $_%_% none_%_% clock_%_due_%_skipped_%_halves_%_queued_%_dropped_%_script_%_wire_%_done_%_vel_% %_%_%_%_%_% wdt_% reset & @ ";
+        b"% %_-_-_%_%_% %_$/%_-_%_%_% %_-_$/&_%_%_% %_$/%_$/&_%_%_% $ %_% E_% none ? $_%_% none_%_% clock_%_due_%_skipped_%_halves_%_queued_%_dropped_%_script_%_wire_%_done_%_vel_% %_%_%_%_%_% wdt_% reset & @ %_key_%_%_next_% %_enc_%_%_next_% %_enc_%_-%_next_% %_adc_%_%_next_% %_midi_%_next_% %_vel_%_next_% %_pressure_%_%_next_% read_%_next_% write_%_%_next_% step_%_next_% broken_% end %_key_%_%_next_%_* %_enc_%_%_next_%_* %_enc_%_-%_next_%_* %_adc_%_%_next_%_* %_midi_%_next_%_* %_vel_%_next_%_* %_pressure_%_%_next_%_* read_%_next_%_* write_%_%_next_%_* step_%_next_%_* ";
     put_marks(out, to, bytes_of(forms, part(forms, form)), numbers)
 }
 

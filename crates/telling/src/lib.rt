@@ -1,4 +1,4 @@
-// What `calls` answers, as text behind the bytes that wait in a buffer: the line itself, ` = ` and its answer. A byte for which there is no room is
+// What `calls` and `asks` answer, as text behind the bytes that wait in a buffer: the line itself, ` = ` and its answer. A byte for which there is no room is
 // left out, as everywhere in `text`.
 mod forms;
 
@@ -47,6 +47,34 @@ pub const RESET: usize = 15;
 pub const BYTE: usize = 16;
 
 pub const SUM: usize = 17;
+
+// Records (`reciting`): their kinds in document 01's order, clicks below 0 apart.
+pub const KEY: usize = 18;
+
+pub const ENC: usize = 19;
+
+pub const ENC_BACK: usize = 20;
+
+pub const ADC: usize = 21;
+
+pub const MIDI: usize = 22;
+
+pub const KEY_VEL: usize = 23;
+
+pub const PRESSURE: usize = 24;
+
+pub const READ: usize = 25;
+
+pub const WRITE: usize = 26;
+
+pub const STEP: usize = 27;
+
+pub const BROKEN: usize = 28;
+
+pub const END: usize = 29;
+
+// So far behind each of the ten kinds stands its form with a star.
+pub const STARRED: usize = 12;
 
 // What is answered otherwise: the lights, a line that has no room, and a line that asks nothing.
 pub const LIGHTS: usize = 100;

@@ -9,8 +9,8 @@ cast-channel-reads c = search needs
 mul-channel-reads : tie.Need-mul-channel-reads
 mul-channel-reads c = search needs
 
-array-read-channel-reads : tie.Need-array-read-channel-reads
-array-read-channel-reads c = search needs
+element-copy-out-channel-reads : tie.Need-element-copy-out-channel-reads
+element-copy-out-channel-reads c = search needs
 
 channel-reads-requires : tie.Need-channel-reads-requires
 channel-reads-requires c κs = search needs
@@ -31,7 +31,7 @@ converted-spec =
     (tie.spec
     cast-channel-reads
     mul-channel-reads
-    array-read-channel-reads
+    element-copy-out-channel-reads
     channel-reads-requires
     line-requires
     moves-requires

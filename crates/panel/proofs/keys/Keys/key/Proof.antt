@@ -1,18 +1,15 @@
+use mathlib.Core.Path.{ap₂}
+use Rattle.panel.specs.declared.keys.Keys.{Keys}
+use Rattle.panel.specs.declared.keys.Ramps.{Ramps}
 use borrow.Author.Needs.{needs}
 use Rattle.panel.proofs.keys.Keys.key.Statement.{statement}
 use Rattle.panel.proofs.keys.Keys.key.Tie as tie
 
-press-requires : tie.Need-press-requires
-press-requires c κs = search needs
+key-in-requires : tie.Need-key-in-requires
+key-in-requires c κs = search needs
 
 returns : tie.Need-returns
-returns c = rw (c .before .if1 .taken, c .press .ensures)
-
-release-requires : tie.Need-release-requires
-release-requires c κs = search needs
-
-returns-2 : tie.Need-returns-2
-returns-2 c = rw (c .before .if1 .left, c .release .ensures)
+returns c = ap₂ (λ (k : Keys) (rs : Ramps). record { keys = k; ramps = rs }) (c .key-in .ensures .0) (c .key-in .ensures .1)
 
 pub key-spec : {M : Type 1} → statement M
-key-spec = tie.close (tie.spec press-requires returns release-requires returns-2)
+key-spec = tie.close (tie.spec key-in-requires returns)

@@ -1,0 +1,121 @@
+// The board's calls for `calls` that are lent memory, the script as words, the bytes behind the jack, the LEDs' times or the banks: each carried out as a line asks,
+// and what it answers.
+use asking::Ask;
+use outcomes::Boarded;
+use outcomes::Rest;
+use outcomes::action;
+use outcomes::read_answer;
+use outcomes::step_answer;
+use state::Board;
+use step::Stepped;
+use telling::LIGHTS;
+use telling::flag;
+use telling::number;
+use telling::pair;
+ghost use mathlib.Core.Path.{_≡_};
+ghost use Rattle.board.specs.Calls.{ledCall, writeFirst, writeSecond};
+ghost use Rattle.board.specs.Steps.{applyQueue};
+ghost use Rattle.outcomes.specs.Outcomes.{actionOf};
+ghost use Rattle.lent.specs.Lent.{ranWords, cameTo, steppedIn, pushedIn, storedIn, appliedIn, numbered, litAs, readingOf, writtenOf};
+
+// The records that a step writes of its actions are not shown: the answer has their number.
+pub fn stepped(b: Board, n: u64, queue: &mut [u8; 3125], script: &[u64; 512]) -> Boarded
+    ensures { λ r. ⌜ r ≡ steppedIn b n (now (script .entry)) (now (queue .entry)) ⌝ }
+    ensures memory { λ _. ⌜ now (queue .exit) ≡ ranWords b n (now (script .entry)) (now (queue .entry)) .1 .0 ⌝ }
+{
+    let mut acts = [0u8; 4352];
+    came_to(words::advance(b, n, queue, script, &mut acts))
+}
+
+fn came_to(s: Stepped) -> Boarded
+    ensures { λ r. ⌜ r ≡ cameTo s ⌝ }
+{
+    let after = s.board;
+    let half = s.audio_half;
+    let byte = s.uart_rx;
+    let rest = Rest {
+        usb: base::when(s.usb_frame, 1) as u64,
+        wdt: base::when(s.wdt, 1) as u64,
+        applied: s.applied as u64,
+    };
+    Boarded {
+        board: after,
+        answer: step_answer(s.refused, after.chip.clock.cycles, half, byte, rest),
+    }
+}
+
+pub fn pushed(b: Board, ask: Ask, script: &mut [u64; 512]) -> Boarded
+    ensures { λ r. ⌜ r ≡ pushedIn b ask (now (script .entry)) ⌝ }
+    ensures memory { λ _. ⌜ now (script .exit) ≡ storedIn b ask (now (script .entry)) ⌝ }
+{
+    let p = words::push(b, script, ask.l, action(ask));
+    let after = p.board;
+    by_number(after, p.refused)
+}
+
+// An action at once.
+pub fn applied(b: Board, ask: Ask, queue: &mut [u8; 3125]) -> Boarded
+    ensures { λ r. ⌜ r ≡ appliedIn b ask (now (queue .entry)) ⌝ }
+    ensures memory { λ _. ⌜ now (queue .exit) ≡ applyQueue b (actionOf ask) (now (queue .entry)) ⌝ }
+{
+    let d = board::apply(b, action(ask), queue);
+    let after = d.board;
+    by_number(after, d.refused)
+}
+
+fn by_number(after: Board, refused: u32) -> Boarded
+    ensures { λ r. ⌜ r ≡ numbered after refused ⌝ }
+{
+    Boarded {
+        board: after,
+        answer: number(refused as u64),
+    }
+}
+
+// The span; the lit times go to `lights`.
+pub fn lit(b: Board, lights: &mut [u64; 41]) -> Boarded
+    ensures { λ r. ⌜ r ≡ litAs (ledCall b) ⌝ }
+    ensures memory { λ _. ⌜ now (lights .exit) ≡ ledCall b .lit ⌝ }
+{
+    let taken = board::led_take(b);
+    let after = taken.board;
+    let times = taken.lit;
+    *lights = times;
+    Boarded {
+        board: after,
+        answer: pair(taken.refused, LIGHTS, taken.span, 0),
+    }
+}
+
+// ---- registers
+
+pub fn read<'a>(b: Board, addr: u32, icfg: &'a [u32; 32], icfg1: &'a [u32; 32]) -> Boarded
+    ensures { λ r. ⌜ r ≡ readingOf b addr (now (icfg .entry)) (now (icfg1 .entry)) ⌝ }
+{
+    let reading = board::read(b, addr, icfg, icfg1);
+    let after = reading.board;
+    let value = reading.value;
+    Boarded {
+        board: after,
+        answer: read_answer(reading.refused, value, after.chip.clock),
+    }
+}
+
+pub fn write(
+    b: Board,
+    addr: u32,
+    value: u32,
+    icfg: &mut [u32; 32],
+    icfg1: &mut [u32; 32],
+) -> Boarded
+    ensures { λ r. ⌜ r ≡ writtenOf b addr value (now (icfg .entry)) (now (icfg1 .entry)) ⌝ }
+    ensures first { λ _. ⌜ now (icfg .exit) ≡ writeFirst b addr value (now (icfg .entry)) (now (icfg1 .entry)) ⌝ }
+    ensures second { λ _. ⌜ now (icfg1 .exit) ≡ writeSecond b addr value (now (icfg .entry)) (now (icfg1 .entry)) ⌝ }
+{
+    let written = board::write(b, addr, value, icfg, icfg1);
+    let after = written.board;
+    Boarded {
+        board: after,
+        answer: flag(written.refused, written.handled),
+    }
+}
