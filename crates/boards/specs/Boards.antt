@@ -40,18 +40,14 @@ unfoldable pub otherOf : Board → Ask → List ℕ → List ℕ → Boarded
 otherOf b ask first second =
     cond (isDeed (ask .call)) (doneOf (ask .call) (didOf b ask)) (record { board = b; answer = lookedOf b ask first second })
 
-unfoldable pub besideOf : Board → Ask → List ℕ → List ℕ → Boarded
-besideOf b ask first second =
-    cond (eqb (ask .call) 1) (readingOf b (ask .a) first second)
-    (cond (eqb (ask .call) 3) (tickedOf b)
-    (otherOf b ask first second))
-
 unfoldable pub bankedOf : Board → Ask → List ℕ → List ℕ → Boarded
 bankedOf b ask first second =
     cond (eqb (ask .call) 2) (writtenOf b (ask .a) (ask .v) first second)
     (cond (eqb (ask .call) 20) (renewedOf b (ask .n) first second)
     (cond (eqb (ask .call) 21) (resetOf b first second)
-    (besideOf b ask first second)))
+    (cond (eqb (ask .call) 1) (readingOf b (ask .a) first second)
+    (cond (eqb (ask .call) 3) (tickedOf b)
+    (otherOf b ask first second)))))
 
 -- the banks after it
 unfoldable pub firstAfter : Board → Ask → List ℕ → List ℕ → List ℕ

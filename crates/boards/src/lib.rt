@@ -29,7 +29,7 @@ use outcomes::Boarded;
 use state::Board;
 ghost use mathlib.Core.Path.{_≡_};
 ghost use Rattle.board.specs.Steps.{newBank, resetFirst, resetSecond};
-ghost use Rattle.boards.specs.Boards.{kept, renewedOf, madeRefused, resetOf, isDeed, otherOf, besideOf, bankedOf, firstAfter, secondAfter, boardedOf, queueAfter, scriptAfter, lightsAfter};
+ghost use Rattle.boards.specs.Boards.{kept, renewedOf, madeRefused, resetOf, isDeed, otherOf, bankedOf, firstAfter, secondAfter, boardedOf, queueAfter, scriptAfter, lightsAfter};
 
 // ---- a new board, a reset
 
@@ -96,6 +96,7 @@ pub fn on_board(
     }
 }
 
+// One match for all that may touch the banks: each function that answers a board costs a copy of it.
 fn by_banks(b: Board, ask: Ask, icfg: &mut [u32; 32], icfg1: &mut [u32; 32]) -> Boarded
     ensures { λ r. ⌜ r ≡ bankedOf b ask (now (icfg .entry)) (now (icfg1 .entry)) ⌝ }
     ensures first { λ _. ⌜ now (icfg .exit) ≡ firstAfter b ask (now (icfg .entry)) (now (icfg1 .entry)) ⌝ }
@@ -106,22 +107,13 @@ fn by_banks(b: Board, ask: Ask, icfg: &mut [u32; 32], icfg1: &mut [u32; 32]) -> 
         WRITE => write(b, ask.a, ask.v, icfg, icfg1),
         NEW => renewed(b, ask.n, icfg, icfg1),
         RESET => reset(b, icfg, icfg1),
-        _ => beside(b, ask, icfg, icfg1),
-    }
-}
-
-// The banks stay as they are.
-fn beside<'a>(b: Board, ask: Ask, icfg: &'a [u32; 32], icfg1: &'a [u32; 32]) -> Boarded
-    ensures { λ r. ⌜ r ≡ besideOf b ask (now (icfg .entry)) (now (icfg1 .entry)) ⌝ }
-{
-    let k = ask.call;
-    match k {
         READ => read(b, ask.a, icfg, icfg1),
         TICK => ticked(b),
         _ => other(b, ask, icfg, icfg1),
     }
 }
 
+// Neither registers nor time: the banks stay as they are.
 fn other<'a>(b: Board, ask: Ask, icfg: &'a [u32; 32], icfg1: &'a [u32; 32]) -> Boarded
     ensures { λ r. ⌜ r ≡ otherOf b ask (now (icfg .entry)) (now (icfg1 .entry)) ⌝ }
 {
