@@ -1,5 +1,5 @@
 // One of the driver's records carried out, by the public calls, for any board and any memory. It answers with all that the record's line has to say; lines are written elsewhere. A driver that
-// knows its board whole (`BenchOk`) asks `known` first. The script is held as plain words, two an entry.
+// knows its board whole (`BenchOk`) goes by `known` in its place. The script is held as plain words, two an entry.
 use audio::Half;
 use records::Action;
 use records::Order;
