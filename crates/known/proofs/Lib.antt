@@ -1,4 +1,3 @@
 pub mod Right
-pub mod Turns
 pub mod Served
 pub mod Ends

@@ -33,9 +33,10 @@ use Rattle.step.specs.declared.stages.Served.{Served}
 use Rattle.uart.specs.Uart.{queueBytes}
 use Rattle.uart.specs.declared.Byte.the-variants.{None as noByte}
 use Rattle.words.specs.Words.{placesIn, shownIn}
-use Rattle.known.specs.Known.{Goes, goingBy, toldBy}
+use Rattle.turns.specs.Held.{Goes, goingBy}
+use Rattle.known.specs.Known.{toldBy}
 use Rattle.known.specs.declared.Outcome.{Outcome}
-use Rattle.known.specs.declared.steps.Taken.{Taken}
+use Rattle.turns.specs.declared.Taken.{Taken}
 use Rattle.known.proofs.Right.{whole-typed}
 
 -- ---- what the stages found due goes through the turns as it is

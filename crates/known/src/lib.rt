@@ -12,14 +12,14 @@ use registers::write_at;
 use script::FULL;
 use script::word_of;
 use state::Chip;
-pub use steps::Taken;
 use steps::step;
 ghost use mathlib.Core.Path.{_≡_};
 ghost use lib.ListN.{length};
 ghost use Rattle.script.specs.Script.{ScriptOk};
 ghost use Rattle.script.specs.Words.{wordOf};
 ghost use Rattle.carry.specs.Carry.{benchOf, BenchOk, answerOf, after};
-ghost use Rattle.known.specs.Known.{heldOf, toldBy, pushOut, pushWords};
+ghost use Rattle.turns.specs.Held.{heldOf};
+ghost use Rattle.known.specs.Known.{toldBy, pushOut, pushWords};
 
 // The chip after a record, and what the record answers.
 pub struct Outcome {

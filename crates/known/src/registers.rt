@@ -25,7 +25,8 @@ ghost use Rattle.panel.specs.Facts.{RampsShort};
 ghost use Rattle.panel.specs.Keys.{rampsOf};
 ghost use Rattle.regs.specs.Writes.{boardWritten, handledAt, firstWritten, secondWritten};
 ghost use Rattle.state.specs.Whole.{ChipOk};
-ghost use Rattle.known.specs.Known.{heldOf, Part, readOut};
+ghost use Rattle.turns.specs.Held.{heldOf};
+ghost use Rattle.known.specs.Known.{Part, readOut};
 
 // The chip that a read finds: after a poll, where the read is one.
 fn found_by(c: Chip, addr: u32) -> Chip

@@ -1,5 +1,5 @@
 use Rattle.driver.proofs.New.{fresh, one-fewer}
-use Rattle.known.specs.Known.{heldOf}
+use Rattle.turns.specs.Held.{heldOf}
 use Rattle.carry.specs.Carry.{benchOf, BenchOk}
 use mathlib.Core.Path.{sym, _∙_}
 use borrow.Author.Needs.{needs}

@@ -1,5 +1,5 @@
 use Rattle.known.proofs.Ends.{push-ends, read-ends, write-ends, step-ends, broken-ends, end-ends}
-use Rattle.known.specs.Known.{heldOf, panelOf}
+use Rattle.turns.specs.Held.{heldOf, panelOf}
 use Rattle.state.proofs.Kept.{sound-short}
 use borrow.Author.Needs.{needs}
 use Rattle.known.proofs.carried.Statement.{statement}

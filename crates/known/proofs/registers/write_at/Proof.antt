@@ -1,7 +1,7 @@
 use native.Mathlib.Omega.{arith}
 use Rattle.known.proofs.Right.{convert-right, written-right, told-write}
 use Rattle.known.specs.declared.Outcome.{Outcome}
-use Rattle.known.specs.Known.{panelOf}
+use Rattle.turns.specs.Held.{panelOf}
 use Rattle.step.specs.Apply.{boardOf}
 use Rattle.carry.proofs.Kept.{first-length, second-length}
 use lib.ListN.{length}

@@ -1,5 +1,5 @@
 use Rattle.known.proofs.Served.{refused-told, within, early-told, serve-ready, turns-ready, served-told}
-use Rattle.known.specs.Known.{heldOf}
+use Rattle.turns.specs.Held.{heldOf}
 use native.Mathlib.Omega.{arith}
 use borrow.Author.Tests.{ne-eqb, lt-ltb, le-ltb}
 use borrow.Author.Needs.{needs}
@@ -27,8 +27,8 @@ returns-2 c = let a = c .before .before .before .before .before .before .before 
 serve-requires : tie.Need-serve-requires
 serve-requires c κs = let a = c .before .before .before .before .before .before .before .before .before .before .args in let B = heldOf (a .c) (a .acc .now) (a .t0 .now) (a .dur .now) (a .from .now) (a .to .now) (a .values .now) in serve-ready B (a .script .now) (c .before .before .before .before .before .before .before .before .before .before .pre .0) (c .before .before .before .before .before .before .before .before .before .before .pre .1) (a .cycles) (a .queue .now) (a .acts .now) (c .before .before .before .before .before .before .before .before .before .before .pre .2) (c .before .before .before .before .before .before .before .before .before .before .pre .3) (c .before .before .before .before .before .before .step-number .result) (c .before .before .before .before .before .before .step-number .ensures) (c .before .before .before .before .before .if1 .left)
 
-turns-requires : tie.Need-turns-requires
-turns-requires c κs = let a = c .before .before .before .before .before .before .before .before .before .before .before .before .before .before .before .before .before .before .before .args in let B = heldOf (a .c) (a .acc .now) (a .t0 .now) (a .dur .now) (a .from .now) (a .to .now) (a .values .now) in (c .before .before .before .before .before .before .before .before .before .before .before .before .before .before .before .before .before .before .before .pre .1 .long, turns-ready B (a .script .now) (c .before .before .before .before .before .before .before .before .before .before .before .before .before .before .before .before .before .before .before .pre .0) (c .before .before .before .before .before .before .before .before .before .before .before .before .before .before .before .before .before .before .before .pre .1) (a .cycles) (a .queue .now) (a .acts .now) (c .before .before .before .before .before .before .before .before .before .before .before .before .before .before .before .before .before .before .before .pre .2) (c .before .before .before .before .before .before .before .before .before .before .before .before .before .before .before .before .before .before .before .pre .3) (c .before .before .before .before .before .before .before .before .before .before .before .before .before .before .before .step-number .result) (c .before .before .before .before .before .before .before .before .before .before .before .before .before .before .before .step-number .ensures) (c .before .before .before .before .before .before .before .before .before .before .before .before .before .before .if1 .left) (le-ltb _ _ (c .before .before .before .before .before .before .before .before .before .before .if2 .left)) (c .before .before .before .before .before .before .before .before .serve .result) (c .before .before .before .before .before .before .before .before .serve .ensures))
+all-due-requires : tie.Need-all-due-requires
+all-due-requires c κs = let a = c .before .before .before .before .before .before .before .before .before .before .before .before .before .before .before .before .before .before .before .args in let B = heldOf (a .c) (a .acc .now) (a .t0 .now) (a .dur .now) (a .from .now) (a .to .now) (a .values .now) in (c .before .before .before .before .before .before .before .before .before .before .before .before .before .before .before .before .before .before .before .pre .1 .long, turns-ready B (a .script .now) (c .before .before .before .before .before .before .before .before .before .before .before .before .before .before .before .before .before .before .before .pre .0) (c .before .before .before .before .before .before .before .before .before .before .before .before .before .before .before .before .before .before .before .pre .1) (a .cycles) (a .queue .now) (a .acts .now) (c .before .before .before .before .before .before .before .before .before .before .before .before .before .before .before .before .before .before .before .pre .2) (c .before .before .before .before .before .before .before .before .before .before .before .before .before .before .before .before .before .before .before .pre .3) (c .before .before .before .before .before .before .before .before .before .before .before .before .before .before .before .step-number .result) (c .before .before .before .before .before .before .before .before .before .before .before .before .before .before .before .step-number .ensures) (c .before .before .before .before .before .before .before .before .before .before .before .before .before .before .if1 .left) (le-ltb _ _ (c .before .before .before .before .before .before .before .before .before .before .if2 .left)) (c .before .before .before .before .before .before .before .before .serve .result) (c .before .before .before .before .before .before .before .before .serve .ensures))
 
 next-event-requires : tie.Need-next-event-requires
 next-event-requires c κs = search needs
@@ -43,7 +43,7 @@ same-length-2 : tie.Need-same-length-2
 same-length-2 c = search needs
 
 returns-3 : tie.Need-returns-3
-returns-3 c = let a = c .before .before .before .before .before .before .before .before .before .before .before .before .before .before .before .before .before .before .before .before .before .before .before .before .before .before .before .before .args in let B = heldOf (a .c) (a .acc .now) (a .t0 .now) (a .dur .now) (a .from .now) (a .to .now) (a .values .now) in served-told B (a .script .now) (c .before .before .before .before .before .before .before .before .before .before .before .before .before .before .before .before .before .before .before .before .before .before .before .before .before .before .before .before .pre .0) (c .before .before .before .before .before .before .before .before .before .before .before .before .before .before .before .before .before .before .before .before .before .before .before .before .before .before .before .before .pre .1) (a .cycles) (a .queue .now) (a .acts .now) (c .before .before .before .before .before .before .before .before .before .before .before .before .before .before .before .before .before .before .before .before .before .before .before .before .before .before .before .before .pre .2) (c .before .before .before .before .before .before .before .before .before .before .before .before .before .before .before .before .before .before .before .before .before .before .before .before .before .before .before .before .pre .3) (c .before .before .before .before .before .before .before .before .before .before .before .before .before .before .before .before .before .before .before .before .before .before .before .before .step-number .result) (c .before .before .before .before .before .before .before .before .before .before .before .before .before .before .before .before .before .before .before .before .before .before .before .before .step-number .ensures) (c .before .before .before .before .before .before .before .before .before .before .before .before .before .before .before .before .before .before .before .before .before .before .before .if1 .left) (le-ltb _ _ (c .before .before .before .before .before .before .before .before .before .before .before .before .before .before .before .before .before .before .before .if2 .left)) (c .before .before .before .before .before .before .before .before .before .before .before .before .before .before .before .before .before .serve .result) (c .before .before .before .before .before .before .before .before .before .before .before .before .before .before .before .before .before .serve .ensures) (c .before .before .before .before .before .before .before .before .turns .result) _ _ _ (c .before .before .before .before .before .before .before .before .turns .ensures) (c .before .before .next-event .result) (c .before .before .next-event .ensures) (c .told3 .result) (c .told3 .ensures)
+returns-3 c = let a = c .before .before .before .before .before .before .before .before .before .before .before .before .before .before .before .before .before .before .before .before .before .before .before .before .before .before .before .before .args in let B = heldOf (a .c) (a .acc .now) (a .t0 .now) (a .dur .now) (a .from .now) (a .to .now) (a .values .now) in served-told B (a .script .now) (c .before .before .before .before .before .before .before .before .before .before .before .before .before .before .before .before .before .before .before .before .before .before .before .before .before .before .before .before .pre .0) (c .before .before .before .before .before .before .before .before .before .before .before .before .before .before .before .before .before .before .before .before .before .before .before .before .before .before .before .before .pre .1) (a .cycles) (a .queue .now) (a .acts .now) (c .before .before .before .before .before .before .before .before .before .before .before .before .before .before .before .before .before .before .before .before .before .before .before .before .before .before .before .before .pre .2) (c .before .before .before .before .before .before .before .before .before .before .before .before .before .before .before .before .before .before .before .before .before .before .before .before .before .before .before .before .pre .3) (c .before .before .before .before .before .before .before .before .before .before .before .before .before .before .before .before .before .before .before .before .before .before .before .before .step-number .result) (c .before .before .before .before .before .before .before .before .before .before .before .before .before .before .before .before .before .before .before .before .before .before .before .before .step-number .ensures) (c .before .before .before .before .before .before .before .before .before .before .before .before .before .before .before .before .before .before .before .before .before .before .before .if1 .left) (le-ltb _ _ (c .before .before .before .before .before .before .before .before .before .before .before .before .before .before .before .before .before .before .before .if2 .left)) (c .before .before .before .before .before .before .before .before .before .before .before .before .before .before .before .before .before .serve .result) (c .before .before .before .before .before .before .before .before .before .before .before .before .before .before .before .before .before .serve .ensures) (c .before .before .before .before .before .before .before .before .all-due .result) _ _ _ (c .before .before .before .before .before .before .before .before .all-due .ensures) (c .before .before .next-event .result) (c .before .before .next-event .ensures) (c .told3 .result) (c .told3 .ensures)
 
 pub step-spec : {M : Type 1} → statement M
 step-spec =
@@ -56,7 +56,7 @@ step-spec =
     told-requires-2
     returns-2
     serve-requires
-    turns-requires
+    all-due-requires
     next-event-requires
     told-requires-3
     same-length

@@ -25,7 +25,7 @@ use Rattle.step.specs.Apply.{boardOf, applyOf, applyIn}
 use Rattle.step.specs.Step.{Ready, shorter, recordOf, reachedOf, takenBy, turnedOf, queueOf, outOf}
 use Rattle.step.specs.declared.Going.{Going}
 use Rattle.uart.specs.Uart.{queueBytes}
-use Rattle.known.specs.Known.{goingBy}
+use Rattle.turns.specs.Held.{goingBy}
 
 module _ (c : Chip) (p : Panel) (written applied : ℕ) (on : Bool) (e : Entry) (q o : List ℕ) where
   abbrev g : Going

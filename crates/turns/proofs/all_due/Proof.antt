@@ -1,6 +1,6 @@
 use Rattle.step.specs.Step.{Ran, runs}
-use Rattle.known.proofs.Turns.{noted-turn, act-ready, taken-turn}
-use Rattle.known.specs.Known.{panelOf, goingBy}
+use Rattle.turns.proofs.Turns.{noted-turn, act-ready, taken-turn}
+use Rattle.turns.specs.Held.{panelOf, goingBy}
 use Rattle.words.proofs.Turns.{goes-on, fewer}
 use Rattle.step.proofs.Loop.{Loop, left, leaves, ready}
 use Rattle.script.specs.Words.{wordsAt}
@@ -10,8 +10,8 @@ use mathlib.Core.Path.{refl}
 use native.Mathlib.Omega.{arith}
 use borrow.Author.Tests.{lt-ltb, le-ltb}
 use borrow.Author.Needs.{needs}
-use Rattle.known.proofs.steps.turns.Statement.{statement}
-use Rattle.known.proofs.steps.turns.Tie as tie
+use Rattle.turns.proofs.all_due.Statement.{statement}
+use Rattle.turns.proofs.all_due.Tie as tie
 
 abbrev Inv-loop : tie.InvT-loop
 Inv-loop c₀ acc t0₀ dur₀ from₀ to₀ values₀ queue₀ script acts₀ written₀ applied₀ on₀ c t0 dur from to values queue acts written applied on = Loop (wordsAt script) entries queue₀ acts₀ (runs (c₀ .script .count) (wordsAt script) (goingBy c₀ (panelOf acc t0₀ dur₀ from₀ to₀ values₀) 0 0 (ltb 0 (c₀ .script .count)), (queue₀, acts₀))) (goingBy c (panelOf acc t0 dur from to values) written applied on, (queue, acts))
@@ -64,8 +64,8 @@ same-length-2 c = c .before .loop .inv .out
 returns : tie.Need-returns Inv-loop μ-loop
 returns c = let P = panelOf (c .before .before .before .before .before .before .args .acc .now) (c .before .loop .t0) (c .before .loop .dur) (c .before .loop .from) (c .before .loop .to) (c .before .loop .values) in leaves (wordsAt (c .before .before .before .before .before .before .args .script .now)) entries _ _ _ (goingBy (c .before .loop .c) P (c .before .loop .written) (c .before .loop .applied) (c .before .loop .on), (c .before .loop .queue, c .before .loop .acts)) (c .before .loop .inv) (c .loop-test .left)
 
-pub turns-spec : {M : Type 1} → statement M
-turns-spec =
+pub all-due-spec : {M : Type 1} → statement M
+all-due-spec =
     tie.close
     (tie.spec
     Inv-loop

@@ -1,8 +1,8 @@
 use Rattle.step.specs.Apply.{applyOf, actedOn, applyIn}
 use mathlib.Core.Path.{refl}
 use borrow.Author.Needs.{needs}
-use Rattle.known.proofs.steps.act.Statement.{statement}
-use Rattle.known.proofs.steps.act.Tie as tie
+use Rattle.turns.proofs.act.Statement.{statement}
+use Rattle.turns.proofs.act.Tie as tie
 
 enum-known-a : tie.Need-enum-known-a
 enum-known-a c = search needs
