@@ -247,12 +247,6 @@ typedef struct {
 
 typedef struct {
     fm1_board_t board;
-    uint32_t refused;
-    bool handled;
-} fm1_written_t;
-
-typedef struct {
-    fm1_board_t board;
     uint64_t lit[41];
     uint64_t span;
     uint32_t refused;
@@ -267,6 +261,12 @@ typedef struct {
     uint64_t value;
     uint32_t refused;
 } fm1_number_t;
+
+typedef struct {
+    fm1_board_t board;
+    uint32_t refused;
+    bool handled;
+} fm1_written_t;
 
 /* A number, or a flag, and the refusal's number (0: done). */
 typedef struct {

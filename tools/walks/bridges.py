@@ -60,7 +60,7 @@ use Rattle.records.specs.declared.Action.{Action}
 use Rattle.script.specs.declared.Entry.{Entry}
 use Rattle.script.specs.Entries.{entriesAt}
 use Rattle.state.specs.declared.Board.{Board}
-use Rattle.board.specs.declared.Done.{Done}
+use Rattle.guard.specs.declared.Done.{Done}
 use Rattle.board.specs.Steps.{newRefused, newCall, newBank}
 use Rattle.step.specs.declared.Pushing.{Pushing}
 use Rattle.step.specs.declared.Stepped.{Stepped}
@@ -73,7 +73,7 @@ use denote.Enum.Laws as EL
 use Rattle.script.proofs.Entry as T
 use Rattle.script.proofs.Entry.Laws as T′
 '''
-rows={"Ac":("Rattle.records","Action"),"B":("Rattle.state","Board"),"D":("Rattle.board","Done"),"R":("Rattle.step","Pushing"),"S":("Rattle.step","Stepped"),"K":(OWN.replace(".proofs",""),"Held")}
+rows={"Ac":("Rattle.records","Action"),"B":("Rattle.state","Board"),"D":("Rattle.guard","Done"),"R":("Rattle.step","Pushing"),"S":("Rattle.step","Stepped"),"K":(OWN.replace(".proofs",""),"Held")}
 def written(name,doc,rows_,cited,stayed,goes,lifetimes,params,types,same,ty,slot_,walk,calls_,args_,vals_,tells_):
     """One bridge's file: `cited` are the calls (contract, alias, module, what the code names it); `slot_` is the local that is lent."""
     N=len(ty)

@@ -21,7 +21,7 @@ head=src[src.index("use mathlib"):src.index("use Rattle.hold")]
 for a,b in (("shr-slice-tells, Room,","shr-slice-tells, shr-slice-copy, Room, finally,"),("use lib.ListN.{length, getD}","use lib.ListN.{length}"),("{ℕ, zero, suc, _+_, _*_, _<_, _^_}","{ℕ, _<_, _^_}"),("use denote.RattleType.{RattleType, owns}","use denote.RattleType.{owns}"),("{Val, vint, vptr}","{Val, vint, hasTy, WT}"),("{Ty, named, erased, mut, imm, w8, w64, tyInt, tyBool, tyPtr, tyRef, loop}","{Ty, Fn, local, valueLocal, named, erased, mut, imm, w8, w32, w64, tyInt, tyRef}"),("Item, Sq, runs as runs′,","Item, mean,"),("anyQ, atRet, ",""),("frame, await, done}","frame, await, updating, now as at-once, show, done}"),("land, land-last,","land, calls,"),(" first, blocks, stays, leaves-loop, exec,",""),("use sound.Loop.{loop-rule}\n",""),("use lib.WfN.{Nat·lt-wfRel}\n",""),("use denote.Triple.Call.{calls-at, calls-at-last}\n","use lib.Dec.{T}\n"),("use denote.Index.{place-is, elem-out, elem-back, looks-slice, shuts-slice}\n",""),("use denote.Builtin.{u8, u64, usize}","use denote.Builtin.{u8, u32, u64, usize}"),("use mathlib.Core.Bool.{Bool, true, false}\n",""),("use denote.Shadow.{pureI}\n",""),("use types.Share.{arr-parts}\n",""),("use denote.Memory.{pointee, shares}","use denote.Memory.{pointee}"),(", fres, fshr-bor}","}"),("Heap, Out, Env, Calls, Loops, Wp, WpFn, Tables, afterSeq, afterBlock, afterTurn, atReturn","Heap, Calls, Loops, WpFn, Tables"),("ex, guard, via, exI, exE, guardI, guardE, fst∗, snd∗, id⊢","via, fst∗, id⊢"),("heres, codedHoleys, at-slice}","}"),("Room, finally, }","Room, finally}"),("look, look-raw, init, store, forget,","look, init, forget,"),("use native.Mathlib.Omega.{arith}\n","use native.Mathlib.Omega.{arith}\n")):
     if a not in head: print("absent:",a); continue
     head=head.replace(a,b)
-uses=f'''use Rattle.board.specs.declared.Done.{{Done}}
+uses=f'''use Rattle.guard.specs.declared.Done.{{Done}}
 use Rattle.board.specs.Steps.{{newRefused, newCall, newBank}}
 use Rattle.script.specs.declared.Entry.{{Entry}}
 use Rattle.script.specs.declared.Front.{{Front}}
@@ -31,8 +31,8 @@ use {OWN}.Calls.{{mF, Fronted, Look, look-runs}}
 use Rattle.script.proofs.Entry as E
 use Rattle.script.proofs.Front as F
 use Rattle.script.proofs.Front.Laws as F′
-use Rattle.board.proofs.Done as D
-use Rattle.board.proofs.Done.Laws as D′
+use Rattle.guard.proofs.Done as D
+use Rattle.guard.proofs.Done.Laws as D′
 use Rattle.script.proofs.look.Symbol as look-def
 use Rattle.script.proofs.look.Symbol.{{name as #look}}
 use Rattle.script.proofs.look.Met as look-thm

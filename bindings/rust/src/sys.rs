@@ -283,14 +283,6 @@ pub struct Ticked {
 
 #[repr(C)]
 #[derive(Clone, Copy, Debug, PartialEq)]
-pub struct Written {
-    pub board: Board,
-    pub refused: u32,
-    pub handled: bool,
-}
-
-#[repr(C)]
-#[derive(Clone, Copy, Debug, PartialEq)]
 pub struct Lit {
     pub board: Board,
     pub lit: [u64; 41],
@@ -310,6 +302,14 @@ pub struct Flag {
 pub struct Number {
     pub value: u64,
     pub refused: u32,
+}
+
+#[repr(C)]
+#[derive(Clone, Copy, Debug, PartialEq)]
+pub struct Written {
+    pub board: Board,
+    pub refused: u32,
+    pub handled: bool,
 }
 
 /// A number, or a flag, and the refusal's number (0: done).

@@ -3,7 +3,7 @@ use mathlib.Core.Path.{_≡_, refl}
 use Prim.Native.Nat.{ℕ, zero, suc, _+_, _≤_, _<_}
 use native.Mathlib.Omega.{arith}
 use borrow.Author.Tests.{ne-eqb}
-use Rattle.panel.specs.declared.keys.Ramps.{Ramps}
+use Rattle.keys.specs.declared.Ramps.{Ramps}
 use Rattle.panel.specs.declared.map.Map.{Map}
 use Rattle.panel.specs.declared.pins.Pins.{Pins}
 use Rattle.adc.specs.Adc.{pinAt, leastTo, pinReads, channelReads}

@@ -10,7 +10,7 @@ use lib.Ieee.{Float}
 use Rattle.base.proofs.Cases.{lt-or-ge}
 use Rattle.panel.specs.Map.{idAt}
 use Rattle.panel.specs.Matrix.{selected}
-use Rattle.panel.specs.declared.keys.Ramps.{Ramps}
+use Rattle.keys.specs.declared.Ramps.{Ramps}
 use Rattle.panel.specs.declared.map.Map.{Map}
 use Rattle.pressure.specs.Value.{openKey}
 use Rattle.adc.specs.Adc.{keyValue, leastTo}

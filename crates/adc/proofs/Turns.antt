@@ -6,7 +6,7 @@ use native.Mathlib.Numerals.{add-one}
 use lib.Ieee.{Float}
 use Rattle.panel.specs.Map.{idAt}
 use Rattle.panel.specs.Matrix.{selected}
-use Rattle.panel.specs.declared.keys.Ramps.{Ramps}
+use Rattle.keys.specs.declared.Ramps.{Ramps}
 use Rattle.panel.specs.declared.map.Map.{Map}
 use Rattle.pressure.specs.Value.{openKey}
 use Rattle.adc.specs.Adc.{keyValue, leastTo}

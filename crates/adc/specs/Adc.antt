@@ -7,10 +7,10 @@ use lib.Dec.{eqb, ltb}
 use lib.Ieee.{Float}
 use lib.ListN.{getD, set}
 use Rattle.base.specs.Bits.{isSet, whenOf, hasBit}
-use Rattle.panel.specs.Keys.{rampOf}
+use Rattle.keys.specs.Keys.{rampOf}
 use Rattle.panel.specs.Map.{idAt}
 use Rattle.panel.specs.Matrix.{selected}
-use Rattle.panel.specs.declared.keys.Ramps.{Ramps}
+use Rattle.keys.specs.declared.Ramps.{Ramps}
 use Rattle.panel.specs.declared.map.Map.{Map}
 use Rattle.panel.specs.declared.pins.Pins.{Pins}
 use Rattle.pressure.specs.Force.{rampAt}

@@ -15,8 +15,8 @@ use pressure::value;
 ghost use mathlib.Core.Path.{_≡_};
 ghost use Prim.Native.Nat.{_≤_, _<_, _^_};
 ghost use lib.Ieee.{Float};
-ghost use Rattle.panel.specs.Facts.{RampsShort};
-ghost use Rattle.panel.specs.Keys.{rampsOf};
+ghost use Rattle.keys.specs.Facts.{RampsShort};
+ghost use Rattle.keys.specs.Keys.{rampsOf};
 ghost use Rattle.pressure.specs.Pin.{Ohms, Wired};
 ghost use Rattle.adc.specs.Adc.{
   adcNew,

@@ -1,60 +1,11 @@
--- What a call knows once its tests have passed.
-use mathlib.Core.Path.{_≡_, refl, sym, _∙_}
-use mathlib.Core.Bool.{Bool, true, false, cond, not, _&&_, true≢false}
-use mathlib.Core.List.{List}
-use Prim.Native.Nat.{ℕ, suc, _≤_}
-use native.Mathlib.Omega.{arith}
+-- What is known where a board is made.
+use mathlib.Core.Path.{_≡_}
+use mathlib.Core.Bool.{not}
+use Prim.Native.Nat.{ℕ, _≤_}
 use borrow.Author.Tests.{eqb-true, ltb-false}
 use lib.Dec.{eqb, ltb}
-use Rattle.base.proofs.Flags.{and-left}
-use Rattle.base.specs.Bits.{isSet}
-use Rattle.regs.specs.Reads.{readOf, t4Read, pollsAt}
-use Rattle.regs.specs.declared.reads.Value.the-variants.{Is}
-use Rattle.state.proofs.Facts.{whole-facts}
-use Rattle.state.specs.State.{boardWhole}
-use Rattle.state.specs.Whole.{Typed, Whole}
-use Rattle.state.specs.declared.Board.{Board}
-use Rattle.state.specs.declared.Chip.{Chip}
-use Rattle.timers.specs.Timer4.{t4Cnt}
-use Rattle.board.specs.Answers.{sizeOf}
+use Rattle.guard.proofs.Known.{no, sizes, unsaid}
 use Rattle.board.specs.Steps.{rateRefused, newRefused}
-
-unsaid : (x : Bool) → not x ≡ false → x ≡ true
-unsaid true q = refl
-unsaid false q = absurd (true≢false q)
-
--- a record that is not broken is whole
-pub known : (b : Board) → Typed b → (r : Bool) → r ≡ not (boardWhole b) → r ≡ false → Whole b
-known b t r e f = whole-facts b t (unsaid (boardWhole b) (sym e ∙ f))
-
-pub sizes : (first second : ℕ) → sizeOf first second ≡ 0 → (first ≡ 32) × (second ≡ 32)
-unfolding sizeOf
-sizes first second e = go (eqb first 32) (eqb second 32) refl refl e
-  where
-    go : (x y : Bool) → eqb first 32 ≡ x → eqb second 32 ≡ y → _≡_ {A = ℕ} (cond (not x) 2 (cond (not y) 2 0)) 0 → (first ≡ 32) × (second ≡ 32)
-    go true true p q r = (eqb-true first 32 p, eqb-true second 32 q)
-    go true false p q r = absurd (omega (arith, r))
-    go false y p q r = absurd (omega (arith, r))
-
--- a poll is a read of TIMER4's count
-pub polls-count : (c : Chip) (addr : ℕ) → pollsAt c addr ≡ true → addr ≡ 0x10804
-unfolding pollsAt
-polls-count c addr e =
-    let running = isSet (c .t4 .con) 1 in
-    let on = not (eqb (c .clock .«skip_idle») 0) in
-    eqb-true addr 0x10804
-    (and-left (eqb addr 0x10804) running
-    (and-left (eqb addr 0x10804 && running) on (and-left (eqb addr 0x10804 && running && on) (eqb (c .clock .«in_isr») 0) e)))
-
-pub count-read : (c : Chip) (icfg icfg1 : List ℕ) (addr : ℕ) → addr ≡ 0x10804
-    → readOf c icfg icfg1 addr ≡ Is (t4Cnt (c .t4) (c .clock .cycles) (c .clock .hz))
-unfolding readOf t4Read
-count-read c icfg icfg1 addr e = rw e
-
--- a test that must have failed
-pub no : (x : Bool) (n m : ℕ) → cond x (suc n) m ≡ 0 → (x ≡ false) × (m ≡ 0)
-no true n m e = absurd (omega (arith, e))
-no false n m e = (refl, e)
 
 -- a board is made: its rate, and the lengths of what is lent
 pub record Makes (hz q s a b : ℕ) : Type 0 where

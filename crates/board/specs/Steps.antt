@@ -11,9 +11,10 @@ use Rattle.state.specs.declared.Board.{Board}
 use Rattle.step.specs.Apply.{applyOf, applyIn}
 use Rattle.step.specs.Reset.{chipReset, zeroed}
 use Rattle.uart.specs.Uart.{queueBytes}
-use Rattle.board.specs.Answers.{CLOCK, SIZE, STATE, COUNT, turnedOf, sizeOf}
-use Rattle.board.specs.Calls.{banksRefused}
-use Rattle.board.specs.declared.Done.{Done}
+use Rattle.guard.specs.Answers.{turnedOf}
+use Rattle.base.specs.Refusals.{CLOCK, SIZE, STATE, COUNT, countMax}
+use Rattle.guard.specs.Refusals.{sizeOf, banksRefused}
+use Rattle.guard.specs.declared.Done.{Done}
 
 -- ---- "Making a board checks 1, then 2, zeroes both banks, starts with queue and script empty and leaves their memory untouched"
 
@@ -40,7 +41,7 @@ newBank refused bank = cond (eqb refused 0) (zeroed bank) bank
 -- `dropped` below 2^62, whatever the action
 unfoldable pub applyRefused : Board → ℕ → ℕ
 applyRefused b queue =
-    cond (not (eqb queue queueBytes)) SIZE (cond (not (boardWhole b)) STATE (cond (leb (2 ^ 62) (b .chip .uart .dropped)) COUNT 0))
+    cond (not (eqb queue queueBytes)) SIZE (cond (not (boardWhole b)) STATE (cond (leb countMax (b .chip .uart .dropped)) COUNT 0))
 
 unfoldable pub applyCall : Board → Action → ℕ → Done
 applyCall b a queue = cond (eqb (applyRefused b queue) 0) (turnedOf (applyOf b a) 0) (turnedOf b (applyRefused b queue))

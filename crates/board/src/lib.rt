@@ -1,93 +1,57 @@
-// The board's public calls. Each takes the record by value, tests what it is given in document 01's order and answers; a call that is turned away says why by 01's number and leaves record and
-// lent memory as they were. Calls that change the record hand it back; the others answer what was asked. The work is done below, by `regs` and `runner`, whose functions of the same names
-// ask for a whole record and test nothing.
+// The board's public calls, all of them under one name: registers here, making a board, an action by hand and a reset in `steps`, and those of `controls`. Each takes the record by value, tests what
+// it is given in document 01's order and answers; a call that is turned away says why by 01's number and leaves record and lent memory as they were. Calls that change the record hand it back;
+// the others answer what was asked. The work is done below, by `regs`, `step` and `runner`, whose functions of the same names ask for a whole record and test nothing.
 mod steps;
 
+pub use base::CLOCK;
 use base::CLOCK_MAX;
-use base::is_deadline;
-use irq::Choice;
-use irq::irq_enabled as enabled;
+pub use base::COUNT;
+pub use base::FULL;
+pub use base::PARAM;
+pub use base::SIZE;
+pub use base::STATE;
+pub use base::TIME;
+pub use controls::Chosen;
+pub use controls::Flag;
+pub use controls::Lit;
+pub use controls::Number;
+pub use controls::Ticked;
+pub use controls::any_pending;
+pub use controls::cycle_of_ms;
+pub use controls::idle;
+pub use controls::irq_enabled;
+pub use controls::led_take;
+pub use controls::midi_dropped;
+pub use controls::midi_queued;
+pub use controls::ms;
+pub use controls::next_tick_due;
+pub use controls::pending_irq;
+pub use controls::pending_irq_for;
+pub use controls::set_cycle_ticks;
+pub use controls::set_exc_pending;
+pub use controls::set_in_isr;
+pub use controls::set_room_cap;
+pub use controls::set_skip_idle;
+pub use controls::set_spi2_pending;
+pub use controls::set_usb;
+pub use controls::set_wdt;
+pub use controls::spi1_irq_off;
+pub use controls::spi1_start;
+pub use controls::spi2_start;
+pub use controls::sr_shift_byte;
+pub use controls::tick;
+pub use controls::tick_room;
+pub use guard::Done;
+use guard::banks;
 use regs::Value;
 use state::Board;
-use state::Chip;
 pub use steps::apply;
 pub use steps::chip_reset;
 pub use steps::made;
 ghost use mathlib.Core.Path.{_≡_};
-ghost use mathlib.Core.Bool.{not};
-ghost use Prim.Native.Nat.{_≤_, _<_, _^_};
 ghost use lib.ListN.{length};
-ghost use Rattle.state.specs.State.{boardWhole};
-ghost use Rattle.board.specs.Answers.{turnedOf, doneOf, sizeOf};
-ghost use Rattle.board.specs.Calls.{
-  tickCall,
-  roomCall,
-  nextDueCall,
-  idleCall,
-  noRead,
-  readCall,
-  writeCall,
-  writeFirst,
-  writeSecond,
-  anyCall,
-  enabledCall,
-  choiceCall,
-  ledCall,
-  spi1Call,
-  spi2Call,
-  spi1OffCall,
-  shiftCall,
-  msCall,
-  cyclesCall,
-  queuedCall,
-  droppedCall,
-  ticksCall,
-  skipCall,
-  isrCall,
-  capCall,
-  excCall,
-  spi2FlagCall,
-  usbCall,
-  wdtCall,
-};
-
-// The numbers of the refusals; 0 is done.
-pub const CLOCK: u32 = 1;
-
-pub const SIZE: u32 = 2;
-
-pub const STATE: u32 = 3;
-
-pub const PARAM: u32 = 4;
-
-pub const FULL: u32 = 5;
-
-pub const COUNT: u32 = 6;
-
-pub const TIME: u32 = 7;
-
-const BANK_WORDS: usize = 32;
-
-const COUNT_MAX: u64 = 0x4000_0000_0000_0000;
-
-const SPI_BYTES: u32 = 65536;
-
-const SPI_BAUD: u32 = 16383;
-
-const MS_MAX: u64 = 0x4_0000_0000;
-
-#[repr(C)]
-pub struct Done {
-    pub board: Board,
-    pub refused: u32,
-}
-
-#[repr(C)]
-pub struct Ticked {
-    pub board: Board,
-    pub refused: u32,
-    pub due: bool,
-}
+ghost use Rattle.state.specs.Whole.{Whole};
+ghost use Rattle.board.specs.Calls.{noRead, countedOf, readCall, writeCall, writeFirst, writeSecond};
 
 pub struct Reading {
     pub board: Board,
@@ -102,147 +66,6 @@ pub struct Written {
     pub handled: bool,
 }
 
-#[repr(C)]
-pub struct Lit {
-    pub board: Board,
-    pub lit: [u64; 41],
-    pub span: u64,
-    pub refused: u32,
-}
-
-#[repr(C)]
-pub struct Flag {
-    pub refused: u32,
-    pub is: bool,
-}
-
-#[repr(C)]
-pub struct Number {
-    pub value: u64,
-    pub refused: u32,
-}
-
-pub struct Chosen {
-    pub refused: u32,
-    pub choice: Choice,
-}
-
-// ---- answers
-
-fn broken(b: Board) -> bool
-    ensures { λ r. ⌜ r ≡ not (boardWhole b) ⌝ }
-{
-    if b.whole() {
-        return false;
-    }
-    true
-}
-
-fn turned_away(b: Board, n: u32) -> Done
-    ensures { λ r. ⌜ r ≡ turnedOf b n ⌝ }
-{
-    let same = b;
-    Done {
-        board: same,
-        refused: n,
-    }
-}
-
-fn accepted(mut b: Board, c: Chip) -> Done
-    ensures { λ r. ⌜ r ≡ doneOf b c ⌝ }
-{
-    b.chip = c;
-    Done {
-        board: b,
-        refused: 0,
-    }
-}
-
-// Both banks' lengths: SIZE where one is not a bank's.
-fn size(first: usize, second: usize) -> u32
-    ensures { λ r. ⌜ r ≡ sizeOf first second ⌝ }
-{
-    if first != BANK_WORDS {
-        return SIZE;
-    }
-    if second != BANK_WORDS {
-        return SIZE;
-    }
-    0
-}
-
-// ---- ticks and idle time
-
-pub fn tick(b: Board) -> Ticked
-    ensures { λ r. ⌜ r ≡ tickCall b ⌝ }
-{
-    if broken(b) {
-        return Ticked {
-            board: b,
-            refused: STATE,
-            due: false,
-        };
-    }
-    if CLOCK_MAX <= b.chip.clock.cycles {
-        return Ticked {
-            board: b,
-            refused: TIME,
-            due: false,
-        };
-    }
-    let c = runner::tick(b.chip);
-    let a = accepted(b, c);
-    let d = a.board;
-    Ticked {
-        board: d,
-        refused: 0,
-        due: runner::is_due(c),
-    }
-}
-
-pub fn tick_room(b: Board) -> Number
-    ensures { λ r. ⌜ r ≡ roomCall b ⌝ }
-{
-    if broken(b) {
-        return Number {
-            value: 0,
-            refused: STATE,
-        };
-    }
-    Number {
-        value: runner::tick_room(b.chip),
-        refused: 0,
-    }
-}
-
-pub fn next_tick_due(b: Board) -> Flag
-    ensures { λ r. ⌜ r ≡ nextDueCall b ⌝ }
-{
-    if broken(b) {
-        return Flag {
-            refused: STATE,
-            is: false,
-        };
-    }
-    Flag {
-        refused: 0,
-        is: runner::next_tick_due(b.chip),
-    }
-}
-
-pub fn idle(b: Board) -> Done
-    ensures { λ r. ⌜ r ≡ idleCall b ⌝ }
-{
-    if broken(b) {
-        return turned_away(b, STATE);
-    }
-    let c = b.chip;
-    if CLOCK_MAX < runner::idle_end(c) {
-        return turned_away(b, TIME);
-    }
-    accepted(b, runner::idle(c))
-}
-
 // ---- registers
 
 fn no_read(b: Board, n: u32) -> Reading
@@ -255,35 +78,39 @@ fn no_read(b: Board, n: u32) -> Reading
     }
 }
 
-// A read. Of TIMER4's count it may skip idle time, and then TIME is refused; any other read changes nothing.
+// TIMER4's count for one who polls it: idle time is skipped first, and TIME refused where that would end past the clock's last.
+fn counted(mut b: Board) -> Reading
+    requires { ⌜ Whole b ⌝ }
+    ensures { λ r. ⌜ r ≡ countedOf b ⌝ }
+{
+    let c = regs::polled(b.chip);
+    if CLOCK_MAX < c.clock.cycles {
+        return no_read(b, TIME);
+    }
+    let n = c.t4.read_cnt(c.clock.cycles, c.clock.hz);
+    b.chip = c;
+    Reading {
+        board: b,
+        refused: 0,
+        value: Value::Is(n),
+    }
+}
+
+// A read of TIMER4's count may be a poll; any other read changes nothing.
 pub fn read<'a>(b: Board, addr: u32, icfg: &'a [u32], icfg1: &'a [u32]) -> Reading
     ensures { λ r. ⌜ r ≡ readCall b addr (now (icfg .entry)) (now (icfg1 .entry)) ⌝ }
 {
-    if size(icfg.len(), icfg1.len()) != 0 {
-        return no_read(b, SIZE);
+    let n = banks(b, icfg.len(), icfg1.len());
+    if n != 0 {
+        return no_read(b, n);
     }
-    if broken(b) {
-        return no_read(b, STATE);
-    }
-    let c = b.chip;
-    if regs::polls(c, addr) {
-        let d = regs::polled(c);
-        if CLOCK_MAX < d.clock.cycles {
-            return no_read(b, TIME);
-        }
-        let n = d.t4.read_cnt(d.clock.cycles, d.clock.hz);
-        let a = accepted(b, d);
-        let e = a.board;
-        return Reading {
-            board: e,
-            refused: 0,
-            value: Value::Is(n),
-        };
+    if regs::polls(b.chip, addr) {
+        return counted(b);
     }
     Reading {
         board: b,
         refused: 0,
-        value: regs::read(c, icfg, icfg1, addr),
+        value: regs::read(b.chip, icfg, icfg1, addr),
     }
 }
 
@@ -292,17 +119,11 @@ pub fn write(b: Board, addr: u32, v: u32, icfg: &mut [u32], icfg1: &mut [u32]) -
     ensures first { λ _. ⌜ now (icfg .exit) ≡ writeFirst b addr v (now (icfg .entry)) (now (icfg1 .entry)) ⌝ }
     ensures second { λ _. ⌜ now (icfg1 .exit) ≡ writeSecond b addr v (now (icfg .entry)) (now (icfg1 .entry)) ⌝ }
 {
-    if size(icfg.len(), icfg1.len()) != 0 {
+    let n = banks(b, icfg.len(), icfg1.len());
+    if n != 0 {
         return Written {
             board: b,
-            refused: SIZE,
-            handled: false,
-        };
-    }
-    if broken(b) {
-        return Written {
-            board: b,
-            refused: STATE,
+            refused: n,
             handled: false,
         };
     }
@@ -312,307 +133,4 @@ pub fn write(b: Board, addr: u32, v: u32, icfg: &mut [u32], icfg1: &mut [u32]) -
         refused: 0,
         handled: regs::handled(addr),
     }
-}
-
-// ---- interrupts
-
-pub fn any_pending(b: Board) -> Flag
-    ensures { λ r. ⌜ r ≡ anyCall b ⌝ }
-{
-    if broken(b) {
-        return Flag {
-            refused: STATE,
-            is: false,
-        };
-    }
-    Flag {
-        refused: 0,
-        is: runner::any_pending(b.chip),
-    }
-}
-
-pub fn irq_enabled<'a>(b: Board, core: u32, n: u8, icfg: &'a [u32], icfg1: &'a [u32]) -> Flag
-    ensures { λ r. ⌜ r ≡ enabledCall b core n (now (icfg .entry)) (now (icfg1 .entry)) ⌝ }
-{
-    if size(icfg.len(), icfg1.len()) != 0 {
-        return Flag {
-            refused: SIZE,
-            is: false,
-        };
-    }
-    if broken(b) {
-        return Flag {
-            refused: STATE,
-            is: false,
-        };
-    }
-    Flag {
-        refused: 0,
-        is: enabled(core, n, icfg, icfg1),
-    }
-}
-
-pub fn pending_irq_for<'a>(b: Board, core: u32, icfg: &'a [u32], icfg1: &'a [u32]) -> Chosen
-    ensures { λ r. ⌜ r ≡ choiceCall b core (now (icfg .entry)) (now (icfg1 .entry)) ⌝ }
-{
-    if size(icfg.len(), icfg1.len()) != 0 {
-        return Chosen {
-            refused: SIZE,
-            choice: Choice::None,
-        };
-    }
-    if broken(b) {
-        return Chosen {
-            refused: STATE,
-            choice: Choice::None,
-        };
-    }
-    Chosen {
-        refused: 0,
-        choice: runner::pending_irq_for(b.chip, core, icfg, icfg1),
-    }
-}
-
-pub fn pending_irq<'a>(b: Board, icfg: &'a [u32], icfg1: &'a [u32]) -> Chosen
-    ensures { λ r. ⌜ r ≡ choiceCall b 0 (now (icfg .entry)) (now (icfg1 .entry)) ⌝ }
-{
-    pending_irq_for(b, 0, icfg, icfg1)
-}
-
-// ---- LEDs
-
-// How long each LED was lit since the last call, and over how long: two whole numbers, which the host divides.
-pub fn led_take(b: Board) -> Lit
-    ensures { λ r. ⌜ r ≡ ledCall b ⌝ }
-{
-    if broken(b) {
-        let dark = [0u64; 41];
-        return Lit {
-            board: b,
-            lit: dark,
-            span: 0,
-            refused: STATE,
-        };
-    }
-    let t = runner::led_take(b);
-    let d = t.board;
-    let lit = t.lit;
-    Lit {
-        board: d,
-        lit: lit,
-        span: t.span,
-        refused: 0,
-    }
-}
-
-// ---- SPI and the shift register
-
-pub fn spi1_start(b: Board, bytes: u32, baud: u32, irq: bool) -> Done
-    ensures { λ r. ⌜ r ≡ spi1Call b bytes baud irq ⌝ }
-{
-    if broken(b) {
-        return turned_away(b, STATE);
-    }
-    if SPI_BYTES < bytes {
-        return turned_away(b, PARAM);
-    }
-    if SPI_BAUD < baud {
-        return turned_away(b, PARAM);
-    }
-    let c = b.chip;
-    if COUNT_MAX <= c.spi.spi1_wire {
-        return turned_away(b, COUNT);
-    }
-    accepted(b, runner::spi1_start(c, bytes, baud, irq))
-}
-
-pub fn spi2_start(b: Board, bytes: u32, baud: u32, irq: bool) -> Done
-    ensures { λ r. ⌜ r ≡ spi2Call b bytes baud irq ⌝ }
-{
-    if broken(b) {
-        return turned_away(b, STATE);
-    }
-    if SPI_BYTES < bytes {
-        return turned_away(b, PARAM);
-    }
-    if SPI_BAUD < baud {
-        return turned_away(b, PARAM);
-    }
-    accepted(b, runner::spi2_start(b.chip, bytes, baud, irq))
-}
-
-pub fn spi1_irq_off(b: Board) -> Done
-    ensures { λ r. ⌜ r ≡ spi1OffCall b ⌝ }
-{
-    if broken(b) {
-        return turned_away(b, STATE);
-    }
-    accepted(b, runner::spi1_irq_off(b.chip))
-}
-
-// A byte that SPI2 clocks into the matrix's shift registers.
-pub fn sr_shift_byte(b: Board, byte: u8) -> Done
-    ensures { λ r. ⌜ r ≡ shiftCall b byte ⌝ }
-{
-    if broken(b) {
-        return turned_away(b, STATE);
-    }
-    accepted(b, runner::sr_shift_byte(b.chip, byte))
-}
-
-// ---- times and counts
-
-pub fn ms(b: Board) -> Number
-    ensures { λ r. ⌜ r ≡ msCall b ⌝ }
-{
-    if broken(b) {
-        return Number {
-            value: 0,
-            refused: STATE,
-        };
-    }
-    Number {
-        value: runner::ms(b.chip),
-        refused: 0,
-    }
-}
-
-pub fn cycle_of_ms(b: Board, ms: u64) -> Number
-    ensures { λ r. ⌜ r ≡ cyclesCall b ms ⌝ }
-{
-    if broken(b) {
-        return Number {
-            value: 0,
-            refused: STATE,
-        };
-    }
-    if MS_MAX < ms {
-        return Number {
-            value: 0,
-            refused: PARAM,
-        };
-    }
-    Number {
-        value: runner::cycle_of_ms(b.chip, ms),
-        refused: 0,
-    }
-}
-
-// MIDI bytes that wait to arrive.
-pub fn midi_queued(b: Board) -> Number
-    ensures { λ r. ⌜ r ≡ queuedCall b ⌝ }
-{
-    if broken(b) {
-        return Number {
-            value: 0,
-            refused: STATE,
-        };
-    }
-    Number {
-        value: b.chip.uart.count as u64,
-        refused: 0,
-    }
-}
-
-// MIDI bytes dropped: no receiver was set up, or the queue was full.
-pub fn midi_dropped(b: Board) -> Number
-    ensures { λ r. ⌜ r ≡ droppedCall b ⌝ }
-{
-    if broken(b) {
-        return Number {
-            value: 0,
-            refused: STATE,
-        };
-    }
-    Number {
-        value: b.chip.uart.dropped,
-        refused: 0,
-    }
-}
-
-// ---- settings
-
-pub fn set_cycle_ticks(b: Board, ticks: u64) -> Done
-    ensures { λ r. ⌜ r ≡ ticksCall b ticks ⌝ }
-{
-    if broken(b) {
-        return turned_away(b, STATE);
-    }
-    accepted(b, runner::set_cycle_ticks(b.chip, ticks))
-}
-
-pub fn set_skip_idle(b: Board, on: bool) -> Done
-    ensures { λ r. ⌜ r ≡ skipCall b on ⌝ }
-{
-    if broken(b) {
-        return turned_away(b, STATE);
-    }
-    accepted(b, runner::set_skip_idle(b.chip, on))
-}
-
-pub fn set_in_isr(b: Board, on: bool) -> Done
-    ensures { λ r. ⌜ r ≡ isrCall b on ⌝ }
-{
-    if broken(b) {
-        return turned_away(b, STATE);
-    }
-    accepted(b, runner::set_in_isr(b.chip, on))
-}
-
-pub fn set_room_cap(b: Board, cap: u64) -> Done
-    ensures { λ r. ⌜ r ≡ capCall b cap ⌝ }
-{
-    if broken(b) {
-        return turned_away(b, STATE);
-    }
-    accepted(b, runner::set_room_cap(b.chip, cap))
-}
-
-pub fn set_exc_pending(b: Board, on: bool) -> Done
-    ensures { λ r. ⌜ r ≡ excCall b on ⌝ }
-{
-    if broken(b) {
-        return turned_away(b, STATE);
-    }
-    accepted(b, runner::set_exc_pending(b.chip, on))
-}
-
-pub fn set_spi2_pending(b: Board, on: bool) -> Done
-    ensures { λ r. ⌜ r ≡ spi2FlagCall b on ⌝ }
-{
-    if broken(b) {
-        return turned_away(b, STATE);
-    }
-    accepted(b, runner::set_spi2_pending(b.chip, on))
-}
-
-// A USB frame's deadline with its period, whatever the deadline.
-pub fn set_usb(b: Board, at: u64, period: u64) -> Done
-    ensures { λ r. ⌜ r ≡ usbCall b at period ⌝ }
-{
-    if broken(b) {
-        return turned_away(b, STATE);
-    }
-    if is_deadline(at) {
-        if period == 0 {
-            return turned_away(b, PARAM);
-        }
-        if CLOCK_MAX < period {
-            return turned_away(b, PARAM);
-        }
-        return accepted(b, runner::set_usb(b.chip, at, period));
-    }
-    turned_away(b, PARAM)
-}
-
-pub fn set_wdt(b: Board, at: u64) -> Done
-    ensures { λ r. ⌜ r ≡ wdtCall b at ⌝ }
-{
-    if broken(b) {
-        return turned_away(b, STATE);
-    }
-    if is_deadline(at) {
-        return accepted(b, runner::set_wdt(b.chip, at));
-    }
-    turned_away(b, PARAM)
 }

@@ -1,34 +1,27 @@
 // The calls that make a board, act on it and reset it.
-use crate::CLOCK;
-use crate::COUNT;
-use crate::COUNT_MAX;
-use crate::Done;
-use crate::SIZE;
-use crate::STATE;
-use crate::broken;
-use crate::size;
-use crate::turned_away;
+use base::CLOCK;
+use base::COUNT;
+use base::COUNT_MAX;
+use base::SIZE;
+use base::STATE;
+use guard::Done;
+use guard::banks;
+use guard::broken;
+use guard::size;
+use guard::turned_away;
 use records::Action;
 use state::Board;
 use step::zero;
 ghost use mathlib.Core.Path.{_≡_};
 ghost use Prim.Native.Nat.{_≤_, _<_, _^_};
 ghost use lib.ListN.{length};
-ghost use Rattle.board.specs.Steps.{
-  rateRefused,
-  newRefused,
-  newCall,
-  newBank,
-  applyCall,
-  applyQueue,
-  resetCall,
-  resetFirst,
-  resetSecond,
-};
+ghost use Rattle.state.specs.State.{boardNew};
+ghost use Rattle.guard.specs.Answers.{turnedOf};
+ghost use Rattle.board.specs.Steps.{rateRefused, newRefused, newCall, newBank, applyCall, applyQueue, resetCall, resetFirst, resetSecond};
 
-const QUEUE_BYTES: usize = 3125;
+const QUEUE_BYTES: usize = uart::QUEUE_BYTES as usize;
 
-const ENTRIES: usize = 256;
+const ENTRIES: usize = script::ENTRIES as usize;
 
 const LEAST_HZ: u64 = 1_000_000;
 
@@ -63,6 +56,16 @@ fn new_refused(hz: u64, queue: usize, script: usize, first: usize, second: usize
     size(first, second)
 }
 
+fn fresh(hz: u32, n: u32) -> Done
+    ensures { λ r. ⌜ r ≡ turnedOf (boardNew hz) n ⌝ }
+{
+    let b = Board::new(hz);
+    Done {
+        board: b,
+        refused: n,
+    }
+}
+
 // A new board, told the lengths of queue and script, whose memory it leaves alone. A refused one has the rate 0 and is not whole.
 pub fn made(hz: u64, queue: usize, script: usize, icfg: &mut [u32], icfg1: &mut [u32]) -> Done
     ensures { λ r. ⌜ r ≡ newCall hz queue script (length (now (icfg .entry))) (length (now (icfg1 .entry))) ⌝ }
@@ -71,11 +74,11 @@ pub fn made(hz: u64, queue: usize, script: usize, icfg: &mut [u32], icfg1: &mut 
 {
     let n = new_refused(hz, queue, script, icfg.len(), icfg1.len());
     if n != 0 {
-        return turned_away(Board::new(0), n);
+        return fresh(0, n);
     }
     zero(icfg);
     zero(icfg1);
-    turned_away(Board::new(hz as u32), 0)
+    fresh(hz as u32, 0)
 }
 
 // ---- actions and reset
@@ -101,11 +104,9 @@ pub fn chip_reset(b: Board, icfg: &mut [u32], icfg1: &mut [u32]) -> Done
     ensures first { λ _. ⌜ now (icfg .exit) ≡ resetFirst b (now (icfg .entry)) (now (icfg1 .entry)) ⌝ }
     ensures second { λ _. ⌜ now (icfg1 .exit) ≡ resetSecond b (now (icfg .entry)) (now (icfg1 .entry)) ⌝ }
 {
-    if size(icfg.len(), icfg1.len()) != 0 {
-        return turned_away(b, SIZE);
-    }
-    if broken(b) {
-        return turned_away(b, STATE);
+    let n = banks(b, icfg.len(), icfg1.len());
+    if n != 0 {
+        return turned_away(b, n);
     }
     turned_away(step::chip_reset(b, icfg, icfg1), 0)
 }

@@ -5,9 +5,10 @@ use mathlib.Core.List.{List}
 use lib.Dec.{eqb, leb}
 use lib.ListN.{length}
 use Rattle.asking.specs.declared.Ask.{Ask}
-use Rattle.board.specs.Calls.{writeFirst, writeSecond, ledCall}
+use Rattle.board.specs.Calls.{writeFirst, writeSecond}
+use Rattle.controls.specs.Calls.{ledCall}
 use Rattle.board.specs.Steps.{newCall, newRefused, newBank, resetCall, resetFirst, resetSecond, applyQueue}
-use Rattle.board.specs.declared.Done.{Done}
+use Rattle.guard.specs.declared.Done.{Done}
 use Rattle.deeds.specs.Deeds.{doneOf, didOf, tickedOf}
 use Rattle.deeds.specs.Looks.{lookedOf}
 use Rattle.lent.specs.Lent.{ranWords, steppedIn, pushedIn, storedIn, appliedIn, litAs, readingOf, writtenOf}

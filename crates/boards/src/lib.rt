@@ -33,9 +33,9 @@ ghost use Rattle.boards.specs.Boards.{kept, renewedOf, madeRefused, rese
 
 // ---- a new board, a reset
 
-pub const QUEUE_BYTES: usize = 3125;
+pub const QUEUE_BYTES: usize = uart::QUEUE_BYTES as usize;
 
-pub const ENTRIES: usize = 256;
+pub const ENTRIES: usize = script::ENTRIES as usize;
 
 // A new board in the place of the old one.
 fn renewed(b: Board, hz: u64, icfg: &mut [u32; 32], icfg1: &mut [u32; 32]) -> Boarded

@@ -4,8 +4,9 @@ use mathlib.Core.Bool.{Bool, cond, not}
 use mathlib.Core.List.{List}
 use lib.Dec.{eqb, ltb}
 use lib.ListN.{length}
-use Rattle.board.specs.Answers.{SIZE, STATE, turnedOf}
-use Rattle.board.specs.declared.Done.{Done}
+use Rattle.base.specs.Refusals.{SIZE, STATE}
+use Rattle.guard.specs.Answers.{turnedOf}
+use Rattle.guard.specs.declared.Done.{Done}
 use Rattle.edge.specs.Edge.{saidOf}
 use Rattle.edge.specs.Ports.{ofRegister}
 use Rattle.edge.specs.declared.Said.{Said}

@@ -1,9 +1,9 @@
 // The board's calls, each by the name that it has inside with `fm1_` before it, and the names of keys and encoders. Lent memory crosses as a pointer and a length.
+use base::STATE;
 use board::Done;
 use board::Flag;
 use board::Lit;
 use board::Number;
-use board::STATE;
 use board::Ticked;
 use board::Written;
 use edge::Advanced;
@@ -15,51 +15,14 @@ use edge::of_id;
 use edge::of_pushing;
 use edge::of_reading;
 use edge::of_stepped;
+use guard::turned_away;
 use script::action_of;
 use state::Board;
 ghost use mathlib.Core.Path.{_≡_};
 ghost use lib.ListN.{length};
-ghost use Rattle.board.specs.Answers.{turnedOf};
-ghost use Rattle.board.specs.Calls.{
-  tickCall,
-  roomCall,
-  nextDueCall,
-  idleCall,
-  readCall,
-  writeCall,
-  writeFirst,
-  writeSecond,
-  anyCall,
-  enabledCall,
-  choiceCall,
-  ledCall,
-  spi1Call,
-  spi2Call,
-  spi1OffCall,
-  shiftCall,
-  msCall,
-  cyclesCall,
-  queuedCall,
-  droppedCall,
-  ticksCall,
-  skipCall,
-  isrCall,
-  capCall,
-  excCall,
-  spi2FlagCall,
-  usbCall,
-  wdtCall,
-};
-ghost use Rattle.board.specs.Steps.{
-  newRefused,
-  newCall,
-  newBank,
-  applyCall,
-  applyQueue,
-  resetCall,
-  resetFirst,
-  resetSecond,
-};
+ghost use Rattle.controls.specs.Calls.{tickCall, roomCall, nextDueCall, idleCall, anyCall, enabledCall, choiceCall, ledCall, spi1Call, spi2Call, spi1OffCall, shiftCall, msCall, cyclesCall, queuedCall, droppedCall, ticksCall, skipCall, isrCall, capCall, excCall, spi2FlagCall, usbCall, wdtCall};
+ghost use Rattle.board.specs.Calls.{readCall, writeCall, writeFirst, writeSecond};
+ghost use Rattle.board.specs.Steps.{newRefused, newCall, newBank, applyCall, applyQueue, resetCall, resetFirst, resetSecond};
 ghost use Rattle.names.specs.Names.{keyIdOf, encIdOf};
 ghost use Rattle.script.specs.Words.{wordOf, actionOf, wordsAt};
 ghost use Rattle.step.specs.Step.{ran, stepOf, pushedOf};
@@ -75,17 +38,6 @@ fn places(n: usize) -> usize
         return n / 2;
     }
     0
-}
-
-// A flag that is neither 0 nor 1.
-fn no_flag(b: Board) -> Done
-    ensures { λ r. ⌜ r ≡ turnedOf b 3 ⌝ }
-{
-    let same = b;
-    Done {
-        board: same,
-        refused: STATE,
-    }
 }
 
 // ---- making a board, steps, actions, reset
@@ -276,7 +228,7 @@ pub extern "C" fn fm1_spi1_start(b: Board, bytes: u32, baud: u32, irq: u8) -> Do
     ensures { λ r. ⌜ r ≡ flagged irq b (spi1Call b bytes baud) ⌝ }
 {
     if 1 < irq {
-        return no_flag(b);
+        return turned_away(b, STATE);
     }
     board::spi1_start(b, bytes, baud, irq == 1)
 }
@@ -287,7 +239,7 @@ pub extern "C" fn fm1_spi2_start(b: Board, bytes: u32, baud: u32, irq: u8) -> Do
     ensures { λ r. ⌜ r ≡ flagged irq b (spi2Call b bytes baud) ⌝ }
 {
     if 1 < irq {
-        return no_flag(b);
+        return turned_away(b, STATE);
     }
     board::spi2_start(b, bytes, baud, irq == 1)
 }
@@ -358,7 +310,7 @@ pub extern "C" fn fm1_set_skip_idle(b: Board, on: u8) -> Done
     ensures { λ r. ⌜ r ≡ flagged on b (skipCall b) ⌝ }
 {
     if 1 < on {
-        return no_flag(b);
+        return turned_away(b, STATE);
     }
     board::set_skip_idle(b, on == 1)
 }
@@ -369,7 +321,7 @@ pub extern "C" fn fm1_set_in_isr(b: Board, on: u8) -> Done
     ensures { λ r. ⌜ r ≡ flagged on b (isrCall b) ⌝ }
 {
     if 1 < on {
-        return no_flag(b);
+        return turned_away(b, STATE);
     }
     board::set_in_isr(b, on == 1)
 }
@@ -388,7 +340,7 @@ pub extern "C" fn fm1_set_exc_pending(b: Board, on: u8) -> Done
     ensures { λ r. ⌜ r ≡ flagged on b (excCall b) ⌝ }
 {
     if 1 < on {
-        return no_flag(b);
+        return turned_away(b, STATE);
     }
     board::set_exc_pending(b, on == 1)
 }
@@ -399,7 +351,7 @@ pub extern "C" fn fm1_set_spi2_pending(b: Board, on: u8) -> Done
     ensures { λ r. ⌜ r ≡ flagged on b (spi2FlagCall b) ⌝ }
 {
     if 1 < on {
-        return no_flag(b);
+        return turned_away(b, STATE);
     }
     board::set_spi2_pending(b, on == 1)
 }

@@ -1,7 +1,7 @@
 // The P33 port's calls. Its record crosses with the event as a number: 0 none, 1 the watchdog's control written, 2 the same with a feed, 3 a reset; any other number is read as none.
+use base::SIZE;
+use base::STATE;
 use base::when;
-use board::SIZE;
-use board::STATE;
 use edge::Port;
 use edge::PortAnswered;
 use edge::Said;

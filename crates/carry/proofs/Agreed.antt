@@ -10,7 +10,7 @@ use lib.ListN.{length, getD, set, length-set}
 use lib.Seq.{getD-set-same, getD-set-other}
 use Rattle.records.specs.declared.Action.{Action}
 use Rattle.records.specs.declared.Action.the-variants.{Key, Enc, Adc, Midi, KeyVel, Pressure}
-use Rattle.regs.specs.Reads.{polledOf}
+use Rattle.reads.specs.Reads.{polledOf}
 use Rattle.regs.specs.Writes.{adcWritten, chipWritten, boardWritten}
 use Rattle.script.specs.Entries.{shown, agreesOf}
 use Rattle.script.specs.Script.{entries, ScriptOk, spotOf, lookedOf, takenOf}

@@ -7,26 +7,26 @@ use native.Mathlib.Omega.{arith}
 use borrow.Author.Tests.{leb-false, ltb-false}
 use lib.Dec.{leb, ltb}
 use Rattle.base.specs.Moments.{clockMax}
-use Rattle.board.specs.Answers.{sizeOf}
-use Rattle.board.specs.Calls.{wholeRefused, banksRefused, readRefused}
+use Rattle.guard.specs.Refusals.{sizeOf, wholeRefused, banksRefused}
+use Rattle.board.specs.Calls.{readRefused}
 use Rattle.irq.specs.Banks.{bankWords}
-use Rattle.regs.specs.Reads.{pollsAt, polledOf}
+use Rattle.reads.specs.Reads.{pollsAt, polledOf}
 use Rattle.script.specs.Script.{fullOf, spotOf}
 use Rattle.state.proofs.Facts.{whole-test}
 use Rattle.state.specs.Whole.{Typed, Whole}
 use Rattle.state.specs.declared.Board.{Board}
 use Rattle.step.specs.Stages.{nowOf}
-use Rattle.step.specs.Step.{frontPlace, outBytes, stepRefusal, pushRefusal, placedOf, morePushed}
+use Rattle.step.specs.Step.{frontPlace, outBytes, stepRefusal, pushRefusal, placedOf, morePushed, pastLimit}
 use Rattle.uart.specs.Uart.{queueBytes}
 use Rattle.words.specs.Words.{shownIn, spotIn}
-use Rattle.carry.specs.Carry.{Agrees, numberOf}
+use Rattle.carry.specs.Carry.{Agrees}
 
 pub push-number : (b : Board) → Typed b → (ws : List ℕ) → Whole b → Agrees b ws → pushRefusal b (shownIn ws (frontPlace b)) ≡ cond (fullOf (b .chip .script)) 5 0
 unfolding pushRefusal
 push-number b t ws w a = rw (a .long, whole-test b t w, a .front)
 
 pub step-left : (b : Board) → Typed b → (ws : List ℕ) (cycles : ℕ) (queue acts : ℕ) → Whole b → Agrees b ws → queue ≡ queueBytes → acts ≡ outBytes
-    → stepRefusal b cycles (shownIn ws (frontPlace b)) queue acts ≡ numberOf (b .chip .uart .dropped) (nowOf (b .chip)) cycles
+    → stepRefusal b cycles (shownIn ws (frontPlace b)) queue acts ≡ pastLimit (b .chip .uart .dropped) (nowOf (b .chip)) cycles
 unfolding stepRefusal
 step-left b t ws cycles queue acts w a q o = rw (q, o, a .long, whole-test b t w, a .front)
 
@@ -41,7 +41,7 @@ module _ (b : Board) (t : Typed b) (w : Whole b) (first second : ℕ) (f : first
   read-left addr = rw (f, s, whole-test b t w)
 
 -- a step that is not refused
-pub granted : (dropped now cycles : ℕ) → numberOf dropped now cycles ≡ 0 → (dropped < 2 ^ 62) × (now + cycles ≤ clockMax)
+pub granted : (dropped now cycles : ℕ) → pastLimit dropped now cycles ≡ 0 → (dropped < 2 ^ 62) × (now + cycles ≤ clockMax)
 granted dropped now cycles e = go (leb (2 ^ 62) dropped) (ltb clockMax (now + cycles)) refl refl e
   where
     go : (x y : Bool) → leb (2 ^ 62) dropped ≡ x → ltb clockMax (now + cycles) ≡ y → _≡_ {A = ℕ} (cond x 6 (cond y 7 0)) 0 → (dropped < 2 ^ 62) × (now + cycles ≤ clockMax)

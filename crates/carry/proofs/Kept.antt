@@ -7,13 +7,14 @@ use lib.Dec.{eqb, leb}
 use lib.ListN.{length, length-set}
 use borrow.Author.Tests.{leb-false}
 use Rattle.board.proofs.Kept.{read-call-kept, write-call-kept}
-use Rattle.board.specs.Calls.{readCall, readChip, readRefused, writeCall, writeFirst, writeSecond, banksRefused}
+use Rattle.board.specs.Calls.{readCall, readChip, readRefused, writeCall, writeFirst, writeSecond}
+use Rattle.guard.specs.Refusals.{banksRefused}
 use Rattle.board.specs.declared.Reading.{Reading}
 use Rattle.board.specs.declared.Written.{Written}
 use Rattle.records.specs.declared.Action.{Action}
 use Rattle.records.specs.declared.Order.the-variants.{Read, Write, Step}
 use Rattle.records.specs.declared.RecordAt.the-variants.{Timed, Order as Ordered}
-use Rattle.regs.specs.Reads.{pollsAt}
+use Rattle.reads.specs.Reads.{pollsAt}
 use Rattle.regs.specs.Writes.{firstWritten, secondWritten}
 use Rattle.script.specs.Script.{fullOf, entries}
 use Rattle.script.specs.Words.{wordOf, wordsAt}

@@ -1,12 +1,11 @@
 -- Document 01's driver, a record at a time: what carrying out a record makes of all that a driver holds, and what it answers. Every record that can be carried out is one of the public calls
 -- (`readCall`, `writeCall`, `stepOf`, a push), so that the driver has no rule of its own beside the lines.
-use Prim.Native.Nat.{ℕ, _^_, _+_}
+use Prim.Native.Nat.{ℕ}
 use mathlib.Core.Bool.{true, cond}
 use mathlib.Core.List.{List}
 use mathlib.Core.Path.{_≡_}
-use lib.Dec.{eqb, leb, ltb}
+use lib.Dec.{eqb}
 use lib.ListN.{length}
-use Rattle.base.specs.Moments.{clockMax}
 use Rattle.board.specs.Calls.{readCall, writeCall, writeFirst, writeSecond}
 use Rattle.irq.specs.Banks.{bankWords}
 use Rattle.records.specs.declared.Order.the-variants.{Read, Write, Step}
@@ -92,10 +91,6 @@ stepIn b cycles queue script acts = ran b cycles (wordsAt script) (placesIn scri
 
 abbrev pub stepped : Board → ℕ → List ℕ → List ℕ → List ℕ → Carried
 stepped b cycles queue script acts = toldOf (stepOf b cycles (wordsAt script) (placesIn script) queue acts)
-
--- what a whole board can still refuse of a step: COUNT, then TIME
-abbrev pub numberOf : ℕ → ℕ → ℕ → ℕ
-numberOf dropped now cycles = cond (leb (2 ^ 62) dropped) 6 (cond (ltb clockMax (now + cycles)) 7 0)
 
 -- ---- a record carried out: all that the driver holds after it, and what its line says
 

@@ -3,8 +3,8 @@ use Prim.Native.Nat.{ℕ}
 use mathlib.Core.Bool.{Bool, cond}
 use lib.Dec.{eqb}
 use Rattle.asking.specs.declared.Ask.{Ask}
-use Rattle.board.specs.Calls.{idleCall, shiftCall, usbCall, wdtCall, spi1Call, spi2Call, spi1OffCall, ticksCall, capCall, skipCall, isrCall, excCall, spi2FlagCall, tickCall}
-use Rattle.board.specs.declared.Done.{Done}
+use Rattle.controls.specs.Calls.{idleCall, shiftCall, usbCall, wdtCall, spi1Call, spi2Call, spi1OffCall, ticksCall, capCall, skipCall, isrCall, excCall, spi2FlagCall, tickCall}
+use Rattle.guard.specs.declared.Done.{Done}
 use Rattle.state.specs.declared.Board.{Board}
 use Rattle.telling.specs.Answers.{flagOf}
 use Rattle.outcomes.specs.Outcomes.{toldOf}

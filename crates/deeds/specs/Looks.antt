@@ -4,9 +4,9 @@ use mathlib.Core.Bool.{cond}
 use mathlib.Core.List.{List, [], _∷_}
 use lib.Dec.{eqb}
 use Rattle.asking.specs.declared.Ask.{Ask}
-use Rattle.board.specs.Calls.{roomCall, msCall, cyclesCall, nextDueCall, anyCall, choiceCall, enabledCall}
-use Rattle.board.specs.declared.Flag.{Flag}
-use Rattle.board.specs.declared.Number.{Number}
+use Rattle.controls.specs.Calls.{roomCall, msCall, cyclesCall, nextDueCall, anyCall, choiceCall, enabledCall}
+use Rattle.controls.specs.declared.Flag.{Flag}
+use Rattle.controls.specs.declared.Number.{Number}
 use Rattle.irq.specs.declared.Choice.{Choice}
 use Rattle.irq.specs.declared.Choice.the-variants.{Of, None as NoChoice}
 use Rattle.state.specs.declared.Board.{Board}

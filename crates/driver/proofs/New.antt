@@ -4,9 +4,9 @@ use mathlib.Core.List.{List}
 use Prim.Native.Nat.{ℕ, _-_, _<_}
 use native.Mathlib.Omega.{arith}
 use lib.ListN.{length, length-map}
-use Rattle.board.specs.Answers.{sizeOf}
+use Rattle.guard.specs.Refusals.{sizeOf}
 use Rattle.board.specs.Steps.{rateRefused, newRefused, newCall, newBank}
-use Rattle.board.specs.declared.Done.{Done}
+use Rattle.guard.specs.declared.Done.{Done}
 use Rattle.carry.specs.Carry.{benchOf, Agrees, BenchOk}
 use Rattle.state.proofs.New.{new-whole}
 use Rattle.state.specs.State.{boardNew, chipNew}

@@ -16,9 +16,9 @@ ghost use lib.ListN.{length};
 
 const RATE: u64 = 240_000_000;
 
-const QUEUE_BYTES: usize = 3125;
+const QUEUE_BYTES: usize = uart::QUEUE_BYTES as usize;
 
-const ENTRIES: usize = 256;
+const ENTRIES: usize = script::ENTRIES as usize;
 
 // Lines that wait are written out while there is still room for one more.
 const FULL: usize = 65536 - 128;

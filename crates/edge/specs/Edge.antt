@@ -9,11 +9,11 @@ use Rattle.irq.specs.declared.Choice.{Choice}
 use Rattle.irq.specs.declared.Choice.the-variants as choice
 use Rattle.names.specs.declared.Id.{Id}
 use Rattle.names.specs.declared.Id.the-variants as id
-use Rattle.regs.specs.declared.reads.Value.{Value}
-use Rattle.regs.specs.declared.reads.Value.the-variants as value
-use Rattle.board.specs.Answers.{turnedOf}
-use Rattle.board.specs.declared.Chosen.{Chosen as BoardChosen}
-use Rattle.board.specs.declared.Done.{Done}
+use Rattle.reads.specs.declared.Value.{Value}
+use Rattle.reads.specs.declared.Value.the-variants as value
+use Rattle.guard.specs.Answers.{turnedOf}
+use Rattle.controls.specs.declared.Chosen.{Chosen as BoardChosen}
+use Rattle.guard.specs.declared.Done.{Done}
 use Rattle.board.specs.declared.Reading.{Reading as BoardReading}
 use Rattle.state.specs.declared.Board.{Board}
 use Rattle.step.specs.declared.Pushing.{Pushing}

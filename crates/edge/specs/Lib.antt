@@ -1,2 +1,3 @@
 pub mod Edge
 pub mod Ports
+pub mod Marks

@@ -1,4 +1,5 @@
 // The calls' answers as plain numbers, for callers that have no enums: a flag is 0 or 1, an answer that may be none has a flag beside it. Inner functions of the boundary to C (crate `capi`).
+pub mod marks;
 pub mod ports;
 
 use audio::Half;

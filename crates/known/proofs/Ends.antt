@@ -15,9 +15,9 @@ use Rattle.regs.specs.Writes.{boardWritten, handledAt, firstWritten, secondWrit
 use Rattle.script.specs.Words.{wordOf}
 use Rattle.state.specs.With.{withChip}
 use Rattle.state.specs.declared.Board.{Board}
-use Rattle.known.specs.Known.{toldBy, pushOut, pushWords, readOut}
-use Rattle.known.specs.declared.Outcome.{Outcome}
-use Rattle.known.proofs.Right.{whole-typed, push-right, read-right, write-first, write-second, wrote}
+use Rattle.trusting.specs.Told.{toldBy, pushOut, pushWords, readOut}
+use Rattle.trusting.specs.declared.Outcome.{Outcome}
+use Rattle.trusting.proofs.Right.{whole-typed, push-right, read-right, write-first, write-second, wrote}
 
 module _ (h : Bench) (ok : BenchOk h) where
   abbrev b : Board

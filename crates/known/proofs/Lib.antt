@@ -1,3 +1,1 @@
-pub mod Right
-pub mod Served
 pub mod Ends

@@ -1,56 +1,17 @@
-// The driver's records on a board that is known to be whole (`BenchOk`), so that nothing is tested for each of them: `carried` answers what `carry` does. The chip goes by value, the panel's arrays stay
-// where they are, lent; each function has one caller, so that the compiler puts all of them into one and holds the chip field by field.
-mod registers;
-mod steps;
-
+// The driver's records on a board that is known to be whole (`BenchOk`), so that nothing is tested for each of them: `carried` answers what `carry` does, by one way for each kind (crate `trusting`).
 use carry::Answer;
-use records::Action;
 use records::Order;
 use records::RecordAt;
-use registers::read_at;
-use registers::write_at;
-use script::FULL;
-use script::word_of;
 use state::Chip;
-use steps::step;
+use trusting::Outcome;
+use trusting::push;
+use trusting::read_at;
+use trusting::step;
+use trusting::told;
+use trusting::write_at;
 ghost use mathlib.Core.Path.{_≡_};
-ghost use lib.ListN.{length};
-ghost use Rattle.script.specs.Script.{ScriptOk};
-ghost use Rattle.script.specs.Words.{wordOf};
 ghost use Rattle.carry.specs.Carry.{benchOf, BenchOk, answerOf, after};
 ghost use Rattle.turns.specs.Held.{heldOf};
-ghost use Rattle.known.specs.Known.{toldBy, pushOut, pushWords};
-
-// The chip after a record, and what the record answers.
-pub struct Outcome {
-    pub chip: Chip,
-    pub answer: Answer,
-}
-
-fn told(c: Chip, answer: Answer) -> Outcome
-    ensures { λ r. ⌜ r ≡ toldBy c answer ⌝ }
-{
-    Outcome {
-        chip: c,
-        answer: answer,
-    }
-}
-
-fn push(mut c: Chip, script: &mut [u64], time: u64, action: Action) -> Outcome
-    requires { ⌜ ScriptOk (c .script) × (length (now script) ≡ 512) ⌝ }
-    ensures { λ r. ⌜ (r ≡ pushOut c time) × (now (script .exit) ≡ pushWords c (now (script .entry)) time (wordOf action)) ⌝ }
-{
-    if c.script.full() {
-        return told(c, Answer::Pushed { number: FULL });
-    }
-    let at = 2 * c.script.spot();
-    script[at] = time;
-    script[at + 1] = word_of(action);
-    let more = c.script.pushed(time);
-    c.script = more;
-    c.clock.next_due = 0;
-    told(c, Answer::Pushed { number: 0 })
-}
 
 // What was found: a record that is carried out, or one that is broken, or none.
 pub fn carried(

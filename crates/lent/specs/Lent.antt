@@ -6,7 +6,7 @@ use Rattle.asking.specs.declared.Ask.{Ask}
 use Rattle.base.specs.Bits.{whenOf}
 use Rattle.board.specs.Calls.{readCall, writeCall}
 use Rattle.board.specs.Steps.{applyCall}
-use Rattle.board.specs.declared.Lit.{Lit}
+use Rattle.controls.specs.declared.Lit.{Lit}
 use Rattle.board.specs.declared.Reading.{Reading}
 use Rattle.board.specs.declared.Written.{Written}
 use Rattle.outcomes.specs.Outcomes.{actionOf, stepAnswer, readAnswer}

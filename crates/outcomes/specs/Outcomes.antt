@@ -8,8 +8,8 @@ use Rattle.audio.specs.declared.Half.{Half}
 use Rattle.audio.specs.declared.Half.the-variants.{Done, None as NoHalf}
 use Rattle.records.specs.declared.Action.{Action}
 use Rattle.records.specs.declared.Action.the-variants.{Key, Enc, Adc, Midi, KeyVel, Pressure}
-use Rattle.regs.specs.declared.reads.Value.{Value}
-use Rattle.regs.specs.declared.reads.Value.the-variants.{Is, None}
+use Rattle.reads.specs.declared.Value.{Value}
+use Rattle.reads.specs.declared.Value.the-variants.{Is, None}
 use Rattle.spi.specs.declared.Spi.{Spi}
 use Rattle.state.specs.declared.Clock.{Clock}
 use Rattle.telling.specs.Answers.{twoOf, pairOf}

@@ -9,6 +9,7 @@
 // and the data. CON bit 8 selects the RTC domain's registers. Plain registers, all 0 at power-on, but for two that act: WDT_CON (bit 4 runs the
 // watchdog, bits 0 to 3 are its period, bit 6 written feeds it) and PR_PWR (bit 4 written resets the chip). The bits that act read 0, so a
 // feed in a polling loop changes nothing there. Whoever keeps the chip takes the event after each access.
+use base::COUNT_MAX;
 ghost use mathlib.Core.Path.{_≡_};
 ghost use Prim.Native.Nat.{_<_, _^_};
 ghost use lib.ListN.{length, getD, set};
@@ -107,11 +108,9 @@ pub const PR_PWR: u16 = 0xa0;
 pub const REGS: usize = 0x800;
 
 // Refusals: a lent length differs; `changed` is 2^62 or more.
-pub const SIZE: u8 = 2;
+pub const SIZE: u8 = base::SIZE as u8;
 
-pub const COUNT: u8 = 6;
-
-const COUNT_MAX: u64 = 0x4000_0000_0000_0000;
+pub const COUNT: u8 = base::COUNT as u8;
 
 impl P33 {
     fn default() -> Self

@@ -5,7 +5,4 @@ pub mod Once
 pub mod Kept
 pub mod Whole
 pub mod Bytes
-pub mod Held
 pub mod RowsRead
-pub mod Contacts
-pub mod Presses

@@ -11,7 +11,8 @@ use lib.Dec.{eqb, ltb}
 use lib.ListN.{getD}
 use Rattle.base.specs.Bits.{whenOf, bitOf, hasBit}
 use Rattle.panel.specs.Map.{idAt}
-use Rattle.panel.specs.Matrix.{orTo, selected, isDown, rowBit, keyRow, keysIn, contactRow, contactsIn, closedIn, closedRows}
+use Rattle.keys.specs.Keys.{isDown}
+use Rattle.panel.specs.Matrix.{orTo, selected, rowBit, keyRow, keysIn, contactRow, contactsIn, closedIn, closedRows}
 use Rattle.panel.specs.declared.map.Map.{Map}
 use Rattle.base.proofs.BitLaws.{or-bit, pow-bit, pow-else}
 

@@ -1,10 +1,9 @@
 -- The LEDs' light: how long each was lit, charged by places of the map, and taken.
 use Prim.Native.Nat.{ℕ, zero, suc, _+_, _-_, _*_, _%_, _^_, max}
-use mathlib.Core.Bool.{Bool, cond}
+use mathlib.Core.Bool.{cond}
 use mathlib.Core.List.{List}
-use lib.Dec.{eqb, ltb, leb}
+use lib.Dec.{eqb, ltb}
 use lib.ListN.{getD, set}
-use Rattle.base.specs.AllTo.{allTo}
 use Rattle.base.specs.Bits.{hasBit}
 use Rattle.panel.specs.Matrix.{selected}
 use Rattle.panel.specs.Pins.{charges, credited, taken}
@@ -51,7 +50,3 @@ spanOf p now = max (now - p .«led_since») 1
 
 unfoldable pub takenOf : Map → Pins → ℕ → List ℕ → Taken
 takenOf m p now acc = record { pins = taken (credited p now) now; lit = litOf m p now acc; span = spanOf p now }
-
--- each of the times is at most `most`
-unfoldable pub upTo : ℕ → List ℕ → Bool
-upTo most l = allTo (λ i. leb (getD l i 0) most) 41

@@ -6,6 +6,7 @@ use lib.Bits.{bitAnd, bitOr}
 use lib.Dec.{eqb, ltb}
 use lib.ListN.{getD}
 use Rattle.base.specs.Bits.{whenOf, bitOf, hasBit}
+use Rattle.keys.specs.Keys.{isDown}
 use Rattle.panel.specs.declared.map.Map.{Map}
 
 -- the rows of the first n, put together
@@ -16,10 +17,6 @@ orTo f (suc n) = bitOr (orTo f n) (f n)
 -- "a low bit selects the column"
 abbrev pub selected : ℕ → ℕ → Bool
 selected latched col = eqb (bitOf latched col) 0
-
--- the keys that are down are the bits of `down`; an id above 40 is no key
-abbrev pub isDown : ℕ → ℕ → Bool
-isDown down id = ltb id 41 && hasBit down id
 
 -- a row's bit, none outside the six rows
 abbrev pub rowBit : ℕ → ℕ

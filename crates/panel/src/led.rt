@@ -13,7 +13,6 @@ ghost use Rattle.panel.specs.Led.{
   flushedTimes,
   takenOf,
   spanOf,
-  upTo,
 };
 
 // A key's LED lit for dt more.
@@ -93,17 +92,4 @@ pub fn led_take(acc: [u64; 41], map: Map, pins: Pins, now: u64) -> Taken
         lit: lit,
         span: most(now - pins.led_since, 1),
     }
-}
-
-// Whether each of the times is at most `most`.
-pub fn times_whole(a: &[u64; 41], most: u64) -> bool
-    ensures { λ r. ⌜ r ≡ upTo most (now (a .entry)) ⌝ }
-{
-    let mut ok = true;
-    let mut i: usize = 0;
-    while i < 41 {
-        ok = ok & (a[i] <= most);
-        i = i + 1;
-    }
-    ok
 }

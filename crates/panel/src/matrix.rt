@@ -1,9 +1,9 @@
 // The key matrix: eleven columns by six rows with pull-ups; a closed contact in a selected column pulls its row low.
 use crate::map::Map;
+use keys::is_down;
 ghost use mathlib.Core.Path.{_≡_};
 ghost use Prim.Native.Nat.{_<_};
 ghost use Rattle.panel.specs.Matrix.{
-  isDown,
   rowBit,
   keysIn,
   contactsIn,
@@ -12,16 +12,6 @@ ghost use Rattle.panel.specs.Matrix.{
   paIn,
   pbIn,
 };
-
-// Whether the key of that id is down.
-pub fn is_down(down: u64, id: u8) -> bool
-    ensures { λ r. ⌜ r ≡ isDown down id ⌝ }
-{
-    if id < 41 {
-        return (down >> id) % 2 == 1;
-    }
-    false
-}
 
 fn row_bit(row: u8) -> u32
     ensures { λ r. ⌜ r ≡ rowBit row ⌝ }

@@ -8,8 +8,8 @@ use borrow.Author.Tests.{eqb-true}
 use lib.Dec.{eqb}
 use lib.ListN.{length}
 use Rattle.base.specs.Ring.{ring}
-use Rattle.board.proofs.Known.{no}
-use Rattle.board.specs.Answers.{turnedOf}
+use Rattle.guard.proofs.Known.{no}
+use Rattle.guard.specs.Answers.{turnedOf}
 use Rattle.board.specs.Steps.{newCall, applyRefused, applyCall, applyQueue}
 use Rattle.midi.proofs.Does.{Does, nothing, demand, all-each, each-then}
 use Rattle.midi.specs.Laws.{offered, Each, Steady}

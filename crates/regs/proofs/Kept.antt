@@ -1,9 +1,9 @@
--- A write keeps a whole record whole, and so does a poll that does not end past the clock's range.
+-- A write keeps a whole record whole.
 use mathlib.Core.Path.{_≡_, refl, sym, subst}
 use mathlib.Core.Bool.{Bool, true, false, cond, _&&_, _||_, true≢false}
 use mathlib.Core.List.{List}
 use mathlib.Core.Logic.{_⊎_, ⊎-elim, inl, inr}
-use Prim.Native.Nat.{ℕ, zero, suc, _+_, _-_, _≤_, _<_, _^_}
+use Prim.Native.Nat.{ℕ, zero, suc, _+_, _≤_, _<_, _^_}
 use native.Mathlib.Nat.{le-refl}
 use native.Mathlib.Omega.{arith}
 use borrow.Author.Tests.{eqb-true, ne-eqb, ltb-false}
@@ -22,11 +22,11 @@ use Rattle.panel.specs.Led.{creditedTimes}
 use Rattle.panel.specs.Map.{fm1Map}
 use Rattle.panel.specs.Pins.{credited, paWritten, phWritten, dirWritten, puWritten, hd0Written, hdWritten}
 use Rattle.panel.specs.declared.pins.Pins.{Pins}
-use Rattle.timers.proofs.Kept.{t4-con-kept, t4-cnt-kept, t4-poll-kept, poll-ends, t5-con-kept, t5-prd-kept, tmr-con-kept, tmr-cnt-kept, tmr-prd-kept, tick-ctl-kept, tick-cnt-kept, tick-prd-kept}
+use Rattle.timers.proofs.Kept.{t4-con-kept, t4-cnt-kept, t5-con-kept, t5-prd-kept, tmr-con-kept, tmr-cnt-kept, tmr-prd-kept, tick-ctl-kept, tick-cnt-kept, tick-prd-kept}
 use Rattle.timers.specs.Facts.{T4Ok, T5Ok, TmrOk, TickOk}
 use Rattle.timers.specs.OsTick.{tickCtlWritten, tickCntWritten, tickPrdWritten}
 use Rattle.timers.specs.Timer.{tmrOf, tmrConWritten, tmrCntWritten, tmrPrdWritten}
-use Rattle.timers.specs.Timer4.{t4ConWritten, t4CntWritten, pollOf, pollDue, pollSkipped, streakOf}
+use Rattle.timers.specs.Timer4.{t4ConWritten, t4CntWritten}
 use Rattle.timers.specs.Timer5.{t5ConWritten, t5PrdWritten}
 use Rattle.timers.specs.declared.os_tick.Tick.{Tick}
 use Rattle.timers.specs.declared.timer.Tmr.{Tmr}
@@ -36,13 +36,13 @@ use Rattle.uart.proofs.Kept.{con0-kept as uart-con0-kept, rxsadr-kept, rxeadr-k
 use Rattle.uart.specs.Facts.{UartOk}
 use Rattle.uart.specs.Uart.{con0Written as uartCon0, rxsadrWritten, rxeadrWritten, rxcntWritten, otcntWritten, txcntWritten}
 use Rattle.uart.specs.declared.Uart.{Uart}
-use Rattle.state.proofs.Kept.{put-t4, put-clock, put-adc, put-chip, later}
+use Rattle.state.proofs.Kept.{put-clock, put-adc, put-chip}
 use Rattle.state.specs.State.{nextEvent}
 use Rattle.state.specs.Whole.{ChipOk, Whole}
-use Rattle.state.specs.With.{withClock, withT4, withAdc, withChip, clockAt, dueAt}
+use Rattle.state.specs.With.{withAdc, withChip, dueAt}
 use Rattle.state.specs.declared.Board.{Board}
 use Rattle.state.specs.declared.Chip.{Chip}
-use Rattle.regs.specs.Reads.{pollAt, polledOf}
+use Rattle.reads.proofs.Kept.{unless-most}
 use Rattle.regs.specs.Writes.{timedAt, t4Written, t5Written, tmrWritten, tmrsWritten, audioWritten, tickWritten, uartWritten, pinsWritten, timesWritten, chipWritten, adcWritten, boardWritten}
 
 -- what holds in both cases holds in either
@@ -204,11 +204,6 @@ chip-kept c addr v w r =
 
 -- ---- `next_due`
 
--- a word on what is due that is cleared or kept is no later
-unless-most : (t : Bool) (due event : ℕ) → due ≤ event → unlessOf t due ≤ event
-unless-most true due event h = omega arith
-unless-most false due event h = h
-
 module _ (c : Chip) (addr v : ℕ) where
   -- an address among the ports' is none of a timed block's
   module _ (l : 0x50000 ≤ addr) (h : addr ≤ 0x501ff) where
@@ -296,28 +291,3 @@ write-kept b addr v w r =
       };
       due = chip-due c addr v (w .due);
     })
-
--- a poll that ends within the clock's range
-module _ (b : Board) (w : Whole b) where
-  abbrev c : Chip
-  c = b .chip
-
-  abbrev end : ℕ
-  end = pollAt c .clock
-
-  poll-forward : c .clock .cycles ≤ end
-  unfolding pollOf
-  poll-forward = poll-ends (streakOf (c .t4 .«cnt_streak») (c .clock .cycles - c .t4 .«last_cnt_read»)) (c .clock .cycles) (c .clock .hz) (nextEvent c) .forward
-
-  pub poll-kept : end ≤ clockMax → Whole (withChip b (polledOf c))
-  unfolding polledOf nextEvent
-  poll-kept m =
-      let now = c .clock .cycles in
-      let due = pollDue (c .clock .«next_due») now end in
-      let skipped = pollSkipped (c .clock .skipped) now end in
-      let d = withClock c (clockAt (c .clock) end due skipped) in
-      let k = later b (w .sound) end due skipped poll-forward m in
-      record {
-        sound = put-chip (withChip b d) k (withT4 d (pollAt c .t4)) (put-t4 d (k .chip) (pollAt c .t4) (t4-poll-kept (c .t4) now (c .clock .hz) (nextEvent c) (w .sound .chip .t4))) refl refl refl;
-        due = unless-most (ltb now end) (c .clock .«next_due») (nextEvent c) (w .due);
-      }

@@ -14,7 +14,7 @@ use Rattle.irq.specs.declared.Latch.{Latch}
 use Rattle.panel.specs.Led.{creditedTimes}
 use Rattle.panel.specs.Map.{fm1Map}
 use Rattle.panel.specs.Pins.{credited, paWritten, phWritten, dirWritten, puWritten, hd0Written, hdWritten}
-use Rattle.panel.specs.declared.keys.Ramps.{Ramps}
+use Rattle.keys.specs.declared.Ramps.{Ramps}
 use Rattle.panel.specs.declared.pins.Pins.{Pins}
 use Rattle.timers.specs.OsTick.{tickCtlWritten, tickCntWritten, tickPrdWritten}
 use Rattle.timers.specs.Timer.{tmrOf, tmrConWritten, tmrCntWritten, tmrPrdWritten}

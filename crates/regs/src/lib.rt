@@ -1,7 +1,5 @@
-// The registers of the FM-1, inner: a caller that knows the record whole reads and writes here, without tests. Addresses are the source's. The page of an address (its
-// 256 bytes) tells the block, the address the register. A plain read changes nothing; a read of TIMER4's count may skip idle time (`polls`, `polled`); a write goes to the chip, to one of
-// the banks, and, for the ports' words that drive LEDs, to the LEDs' times.
-mod reads;
+// The registers of the FM-1, inner: a caller that knows the record whole reads and writes here, without tests. Addresses are the source's. What a read answers is crate `reads`, whose items are
+// handed on; a write goes to the chip, to one of the banks, and, for the ports' words that drive LEDs, to the LEDs' times.
 mod writes;
 
 pub use reads::Value;

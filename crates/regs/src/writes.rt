@@ -20,7 +20,7 @@ ghost use Prim.Native.Nat.{_≤_, _<_};
 ghost use lib.ListN.{length};
 ghost use Rattle.base.specs.Moments.{clockMax};
 ghost use Rattle.irq.specs.Banks.{bankWords};
-ghost use Rattle.panel.specs.Facts.{RampsShort};
+ghost use Rattle.keys.specs.Facts.{RampsShort};
 ghost use Rattle.state.specs.Whole.{ChipOk, Sound};
 ghost use Rattle.regs.specs.Writes.{
   timedAt,
@@ -278,23 +278,16 @@ pub fn write_chip(mut c: Chip, addr: u32, v: u32) -> Chip
     let hz = c.clock.hz;
     let due = unless_wide(timed(addr), c.clock.next_due);
     let t = c.tmr;
-    let t4 = t4_write(c.t4, addr, v, now);
-    let t5 = t5_write(c.t5, addr, v, now, hz);
     let tmr = tmrs_write(t, addr, v, now, hz);
-    let tick = tick_write(c.tick, addr, v, now, hz);
-    let audio = audio_write(c.audio, addr, v, now, hz);
-    let uart = uart_write(c.uart, addr, v);
-    let pins = pins_write(c.pins, addr, v, now);
-    let latch = latch_write(c.latch, addr, v);
     c.clock.next_due = due;
-    c.t4 = t4;
-    c.t5 = t5;
+    c.t4 = t4_write(c.t4, addr, v, now);
+    c.t5 = t5_write(c.t5, addr, v, now, hz);
     c.tmr = tmr;
-    c.tick = tick;
-    c.audio = audio;
-    c.uart = uart;
-    c.pins = pins;
-    c.latch = latch;
+    c.tick = tick_write(c.tick, addr, v, now, hz);
+    c.audio = audio_write(c.audio, addr, v, now, hz);
+    c.uart = uart_write(c.uart, addr, v);
+    c.pins = pins_write(c.pins, addr, v, now);
+    c.latch = latch_write(c.latch, addr, v);
     c
 }
 

@@ -4,7 +4,7 @@ use mathlib.Core.Bool.{cond}
 use mathlib.Core.List.{List, []}
 use lib.Dec.{ltb}
 use lib.ListN.{getD, set, replicate}
-use Rattle.panel.specs.declared.encoder.Enc.{Enc}
+use Rattle.encoders.specs.declared.Enc.{Enc}
 use Rattle.timers.specs.Timer.{tmrNew}
 use Rattle.timers.specs.declared.timer.Tmr.{Tmr}
 

@@ -1,12 +1,20 @@
 // The record from rows of numbers, one for each field that a whole record limits and for those that decide what the calls here do. A field with one place has it at the row's front; all other fields are a new board's.
 // What `board_of` ensures is less than its sentence: the LEDs' light and the ramps' beginnings are their rows. The other fields are held by the runs against tools/broken.
+use audio::Audio;
 use panel::Enc;
+use panel::Pins;
 use panel::Ramps;
+use script::Script;
+use spi::Spi;
 use state::Board;
 use state::Chip;
+use state::Clock;
+use state::Host;
 use state::Panel;
+use timers::T4;
 use timers::Tmr;
 use tries::place_in;
+use uart::Uart;
 ghost use mathlib.Core.Path.{_≡_};
 ghost use Prim.Native.Nat.{_≤_};
 ghost use Rattle.rows.specs.Rows.{row, filled, placed, low as lowOf, tmrFrom, encFrom};
@@ -79,73 +87,22 @@ fn enc_of(next: u64, pending: u64, state: u64) -> Enc
     }
 }
 
-fn timers_of(mut c: Chip, rows: &[[u64; PLACES]; ROWS]) -> Chip {
-    c.clock.cycles = rows[1][0];
-    c.clock.next_due = rows[2][0];
-    c.clock.skipped = rows[3][0];
-    let skipping = (rows[4][0] % 0x1_0000_0000) as u32;
-    c.clock.skip_idle = skipping;
-    c.clock.in_isr = rows[5][0];
-    let con = (rows[6][0] % 0x1_0000_0000) as u32;
-    c.t4.con = con;
-    c.t4.base = rows[7][0];
-    c.t4.last_cnt_read = rows[8][0];
-    let cnt_streak = (rows[9][0] % 0x1_0000_0000) as u32;
-    c.t4.cnt_streak = cnt_streak;
-    c.t5.next = rows[10][0];
+fn tmrs_of(rows: &[[u64; PLACES]; ROWS]) -> [Tmr; 4] {
     let s = rows[11];
     let n = rows[12];
-    let tmr = [
+    [
         tmr_of(s[0], n[0]),
         tmr_of(s[1], n[1]),
         tmr_of(s[2], n[2]),
         tmr_of(s[3], n[3]),
-    ];
-    c.tmr = tmr;
-    c.tick.start = rows[13][0];
-    c.tick.next = rows[14][0];
-    c
+    ]
 }
 
-fn wires_of(mut c: Chip, rows: &[[u64; PLACES]; ROWS]) -> Chip {
-    c.audio.next = rows[15][0];
-    c.audio.half = rows[16][0];
-    let len = (rows[17][0] % 0x1_0000_0000) as u32;
-    c.audio.len = len;
-    c.spi.spi1_done_at = rows[18][0];
-    c.spi.spi1_irq_at = rows[19][0];
-    c.spi.spi1_wire = rows[20][0];
-    c.spi.spi2_next = rows[21][0];
-    c.uart.next = rows[22][0];
-    c.uart.ot_next = rows[23][0];
-    c.uart.dropped = rows[24][0];
-    let wr = (rows[25][0] % 0x1_0000_0000) as u32;
-    c.uart.wr = wr;
-    let rxcnt = (rows[26][0] % 0x1_0000_0000) as u32;
-    c.uart.rxcnt = rxcnt;
-    let place = (rows[27][0] % 0x1_0000_0000) as u32;
-    c.uart.place = place;
-    let count = (rows[28][0] % 0x1_0000_0000) as u32;
-    c.uart.count = count;
-    c
-}
-
-fn front_of(mut c: Chip, rows: &[[u64; PLACES]; ROWS]) -> Chip {
-    c.host.usb_next = rows[29][0];
-    c.host.usb_period = rows[30][0];
-    c.host.wdt_at = rows[31][0];
-    c.script.at = rows[32][0];
-    let place = (rows[33][0] % 0x1_0000_0000) as u32;
-    c.script.place = place;
-    let count = (rows[34][0] % 0x1_0000_0000) as u32;
-    c.script.count = count;
-    c.pins.led_last = rows[35][0];
-    c.pins.led_since = rows[36][0];
-    c.pins.led_pend = rows[37][0];
+fn encs_of(rows: &[[u64; PLACES]; ROWS]) -> [Enc; 8] {
     let n = rows[38];
     let p = rows[39];
     let s = rows[40];
-    let enc = [
+    [
         enc_of(n[0], p[0], s[0]),
         enc_of(n[1], p[1], s[1]),
         enc_of(n[2], p[2], s[2]),
@@ -154,10 +111,93 @@ fn front_of(mut c: Chip, rows: &[[u64; PLACES]; ROWS]) -> Chip {
         enc_of(n[5], p[5], s[5]),
         enc_of(n[6], p[6], s[6]),
         enc_of(n[7], p[7], s[7]),
-    ];
+    ]
+}
+
+// A block at a time: a function that holds one block alone is cheap to prove.
+fn clock_of(mut c: Clock, rows: &[[u64; PLACES]; ROWS]) -> Clock {
+    c.cycles = rows[1][0];
+    c.next_due = rows[2][0];
+    c.skipped = rows[3][0];
+    c.skip_idle = low(rows[4][0]);
+    c.in_isr = rows[5][0];
+    c
+}
+
+fn t4_of(mut t: T4, rows: &[[u64; PLACES]; ROWS]) -> T4 {
+    t.con = low(rows[6][0]);
+    t.base = rows[7][0];
+    t.last_cnt_read = rows[8][0];
+    t.cnt_streak = low(rows[9][0]);
+    t
+}
+
+fn audio_of(mut a: Audio, rows: &[[u64; PLACES]; ROWS]) -> Audio {
+    a.next = rows[15][0];
+    a.half = rows[16][0];
+    a.len = low(rows[17][0]);
+    a
+}
+
+fn spi_of(mut s: Spi, rows: &[[u64; PLACES]; ROWS]) -> Spi {
+    s.spi1_done_at = rows[18][0];
+    s.spi1_irq_at = rows[19][0];
+    s.spi1_wire = rows[20][0];
+    s.spi2_next = rows[21][0];
+    s
+}
+
+fn uart_of(mut u: Uart, rows: &[[u64; PLACES]; ROWS]) -> Uart {
+    u.next = rows[22][0];
+    u.ot_next = rows[23][0];
+    u.dropped = rows[24][0];
+    u.wr = low(rows[25][0]);
+    u.rxcnt = low(rows[26][0]);
+    u.place = low(rows[27][0]);
+    u.count = low(rows[28][0]);
+    u
+}
+
+fn host_of(mut h: Host, rows: &[[u64; PLACES]; ROWS]) -> Host {
+    h.usb_next = rows[29][0];
+    h.usb_period = rows[30][0];
+    h.wdt_at = rows[31][0];
+    h
+}
+
+fn script_of(mut s: Script, rows: &[[u64; PLACES]; ROWS]) -> Script {
+    s.at = rows[32][0];
+    s.place = low(rows[33][0]);
+    s.count = low(rows[34][0]);
+    s
+}
+
+fn pins_of(mut p: Pins, rows: &[[u64; PLACES]; ROWS]) -> Pins {
+    p.led_last = rows[35][0];
+    p.led_since = rows[36][0];
+    p.led_pend = rows[37][0];
+    p
+}
+
+fn chip_of(rows: &[[u64; PLACES]; ROWS]) -> Chip {
+    let mut c = Chip::new(low(rows[0][0]));
+    c.clock = clock_of(c.clock, rows);
+    c.t4 = t4_of(c.t4, rows);
+    c.t5.next = rows[10][0];
+    let tmr = tmrs_of(rows);
+    c.tmr = tmr;
+    c.tick.start = rows[13][0];
+    c.tick.next = rows[14][0];
+    c.audio = audio_of(c.audio, rows);
+    c.spi = spi_of(c.spi, rows);
+    c.uart = uart_of(c.uart, rows);
+    c.host = host_of(c.host, rows);
+    c.script = script_of(c.script, rows);
+    c.pins = pins_of(c.pins, rows);
+    let enc = encs_of(rows);
     c.enc = enc;
     c.keys.vel = rows[41][0];
-    let exc_pending = (rows[42][0] % 0x1_0000_0000) as u32;
+    let exc_pending = low(rows[42][0]);
     c.latch.exc_pending = exc_pending;
     c
 }
@@ -220,10 +260,8 @@ fn panel_of(rows: &[[u64; PLACES]; ROWS]) -> Panel
 pub fn board_of(rows: &[[u64; PLACES]; ROWS]) -> Board
     ensures { λ r. ⌜ (r .panel .acc ≡ row (now (rows .entry)) 47) × (r .panel .ramps .t0 ≡ row (now (rows .entry)) 43) ⌝ }
 {
-    let new = Chip::new(low(rows[0][0]));
-    let c = front_of(wires_of(timers_of(new, rows), rows), rows);
     Board {
-        chip: c,
+        chip: chip_of(rows),
         panel: panel_of(rows),
     }
 }

@@ -4,6 +4,7 @@ use mathlib.Core.Bool.{Bool, true, false, cond, not, _||_}
 use mathlib.Core.List.{List}
 use lib.Dec.{eqb}
 use lib.ListN.{length, getD, set}
+use Rattle.base.specs.Refusals.{SIZE, STATE, FULL}
 use Rattle.base.specs.Ring.{ring}
 use Rattle.records.specs.declared.Action.the-variants.{Key}
 use Rattle.script.specs.declared.Script.{Script}
@@ -42,11 +43,11 @@ agreesOf s f = eqb (s .count) 0 || eqb (f .entry .at) (s .at)
 
 -- "2 SIZE: a lent length differs"; "3 STATE: the record is not whole"
 abbrev pub lentRefused : Script → ℕ → ℕ
-lentRefused s n = cond (not (eqb n entries)) 2 (cond (scriptWhole s) 0 3)
+lentRefused s n = cond (not (eqb n entries)) SIZE (cond (scriptWhole s) 0 STATE)
 
 -- "5 FULL: a push onto 256 waiting script entries"
 abbrev pub pushRefused : Script → ℕ → ℕ
-pushRefused s n = cond (not (eqb (lentRefused s n) 0)) (lentRefused s n) (cond (fullOf s) 5 0)
+pushRefused s n = cond (not (eqb (lentRefused s n) 0)) (lentRefused s n) (cond (fullOf s) FULL 0)
 
 -- ---- a push
 

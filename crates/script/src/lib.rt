@@ -4,7 +4,10 @@
 // Lend the same entries to each call and go on with the ring that it answers: `push` puts an entry behind the last, `look` shows what stands at a place,
 // `take` takes the front. A call that is refused says why by document 01's number (0: done) and leaves ring and entries as they were. Whoever holds
 // the script as plain words, two an entry, reads them by `entry_of`, and goes by the ring's own functions.
+use base::FULL;
 use base::NEVER;
+use base::SIZE;
+use base::STATE;
 use records::Action;
 ghost use mathlib.Core.Path.{_≡_};
 ghost use Prim.Native.Nat.{_<_};
@@ -79,13 +82,6 @@ pub struct Took {
 }
 
 pub const ENTRIES: u32 = 256;
-
-// Refusals: the lent entries are not ENTRIES; place or count are out of their ring; ENTRIES wait.
-pub const SIZE: u32 = 2;
-
-pub const STATE: u32 = 3;
-
-pub const FULL: u32 = 5;
 
 impl Script {
     pub fn new() -> Self

@@ -11,11 +11,12 @@ use Rattle.base.proofs.Deadlines.{deadline-fact, deadline-test}
 use Rattle.base.proofs.Flags.{both}
 use Rattle.audio.specs.Audio.{audioWhole}
 use Rattle.audio.proofs.Whole.{audio-facts, audio-test}
-use Rattle.panel.specs.Encoder.{encsWhole}
-use Rattle.panel.specs.Keys.{keysWhole, rampsWhole}
-use Rattle.panel.specs.Led.{upTo}
+use Rattle.encoders.specs.Encoder.{encsWhole}
+use Rattle.keys.specs.Keys.{keysWhole, rampsWhole, upTo}
 use Rattle.panel.specs.Pins.{pinsWhole}
-use Rattle.panel.proofs.Whole.{pins-facts, pins-test, light-facts, light-test, encs-facts, encs-test, keys-facts, keys-test, ramps-facts, ramps-test}
+use Rattle.panel.proofs.Whole.{pins-facts, pins-test, light-facts, light-test}
+use Rattle.encoders.proofs.Whole.{encs-facts, encs-test}
+use Rattle.keys.proofs.Whole.{keys-facts, keys-test, ramps-facts, ramps-test}
 use Rattle.script.specs.Script.{entries, scriptWhole, ScriptOk}
 use Rattle.script.specs.declared.Script.{Script}
 use Rattle.spi.specs.Spi.{spiWhole}

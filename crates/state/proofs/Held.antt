@@ -14,7 +14,7 @@ use denote.Struct.Field.{Field, array-field, u64-field, u32-field, f32-field}
 use Rattle.timers.specs.Timer.{noTmr}
 use Rattle.state.specs.Whole.{Typed}
 use Rattle.state.specs.declared.Board.{Board}
-use Rattle.panel.proofs.encoder.Enc as enc
+use Rattle.encoders.proofs.Enc as enc
 use Rattle.timers.proofs.timer.Tmr as tmr
 use Rattle.state.proofs.Board as board
 

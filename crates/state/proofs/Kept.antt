@@ -13,12 +13,14 @@ use Rattle.adc.specs.declared.Adc.{Adc}
 use Rattle.audio.specs.Facts.{AudioOk}
 use Rattle.audio.specs.declared.Audio.{Audio}
 use Rattle.irq.specs.declared.Latch.{Latch}
-use Rattle.panel.proofs.Held.{ramps-later, ramps-short}
+use Rattle.keys.proofs.Held.{ramps-later, ramps-short}
 use Rattle.panel.proofs.Kept.{pins-later}
-use Rattle.panel.specs.Encoder.{encOf}
-use Rattle.panel.specs.Facts.{PinsOk, EncOk, KeysOk, RampsShort}
-use Rattle.panel.specs.declared.encoder.Enc.{Enc}
-use Rattle.panel.specs.declared.keys.Keys.{Keys}
+use Rattle.encoders.specs.Encoder.{encOf}
+use Rattle.panel.specs.Facts.{PinsOk}
+use Rattle.encoders.specs.Facts.{EncOk}
+use Rattle.keys.specs.Facts.{KeysOk, RampsShort}
+use Rattle.encoders.specs.declared.Enc.{Enc}
+use Rattle.keys.specs.declared.Keys.{Keys}
 use Rattle.panel.specs.declared.pins.Pins.{Pins}
 use Rattle.script.specs.Script.{ScriptOk}
 use Rattle.script.specs.declared.Script.{Script}

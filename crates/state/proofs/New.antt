@@ -5,9 +5,9 @@ use Prim.Native.Nat.{ℕ, zero, suc, _/_, _≤_, _<_}
 use native.Mathlib.Omega.{arith}
 use lib.Ieee.{Float, nan}
 use lib.ListN.{getD-replicate}
-use Rattle.panel.specs.Encoder.{encNew, encOf}
-use Rattle.panel.specs.Facts.{EncOk}
-use Rattle.panel.specs.Keys.{rampOf, rampsNew}
+use Rattle.encoders.specs.Encoder.{encNew, encOf}
+use Rattle.encoders.specs.Facts.{EncOk}
+use Rattle.keys.specs.Keys.{rampOf, rampsNew}
 use Rattle.pressure.specs.Force.{zero32, rampNew}
 use Rattle.pressure.proofs.Kept.{new-ok}
 use Rattle.timers.specs.Facts.{TmrOk}

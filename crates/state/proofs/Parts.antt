@@ -5,8 +5,8 @@ use Prim.Native.Nat.{_≤_}
 use lib.Dec.{leb}
 use borrow.Author.Tests.{leb-true}
 use Rattle.base.proofs.Flags.{both}
-use Rattle.panel.specs.Encoder.{encsWhole}
-use Rattle.panel.specs.Keys.{keysWhole}
+use Rattle.encoders.specs.Encoder.{encsWhole}
+use Rattle.keys.specs.Keys.{keysWhole}
 use Rattle.panel.specs.Pins.{pinsWhole}
 use Rattle.script.specs.Script.{scriptWhole}
 use Rattle.state.specs.State.{clockWhole, timersWhole, wiresWhole, frontWhole, nextEvent, chipWhole}

@@ -10,9 +10,8 @@ use Rattle.adc.specs.Adc.{adcNew}
 use Rattle.audio.specs.Audio.{audioNew, audioWhole}
 use Rattle.irq.specs.Latch.{latchNew}
 use Rattle.irq.specs.declared.Pending.{Pending}
-use Rattle.panel.specs.Encoder.{encNew, encsNext, encsWhole}
-use Rattle.panel.specs.Keys.{keysNew, rampsNew, keysWhole, rampsWhole}
-use Rattle.panel.specs.Led.{upTo}
+use Rattle.encoders.specs.Encoder.{encNew, encsNext, encsWhole}
+use Rattle.keys.specs.Keys.{keysNew, rampsNew, keysWhole, rampsWhole, upTo}
 use Rattle.panel.specs.Pins.{pinsNew, pinsWhole}
 use Rattle.script.specs.Script.{scriptNew, frontTime, scriptWhole}
 use Rattle.spi.specs.Spi.{spiNew, spiNext, spiWhole}

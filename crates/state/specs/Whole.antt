@@ -7,9 +7,11 @@ use lib.Ieee.{binary32, fits}
 use lib.ListN.{length}
 use Rattle.base.specs.Moments.{clockMax, never, Deadline}
 use Rattle.audio.specs.Facts.{AudioOk}
-use Rattle.panel.specs.Encoder.{encOf}
-use Rattle.panel.specs.Facts.{PinsOk, LightOk, EncOk, KeysOk, RampsOk, Sized}
-use Rattle.panel.specs.Keys.{rampOf}
+use Rattle.encoders.specs.Encoder.{encOf}
+use Rattle.panel.specs.Facts.{PinsOk, LightOk}
+use Rattle.encoders.specs.Facts.{EncOk}
+use Rattle.keys.specs.Facts.{KeysOk, RampsOk, Sized}
+use Rattle.keys.specs.Keys.{rampOf}
 use Rattle.script.specs.Script.{ScriptOk}
 use Rattle.spi.specs.Facts.{SpiOk}
 use Rattle.timers.specs.Facts.{T4Ok, T5Ok, TmrOk, TickOk}

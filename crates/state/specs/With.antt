@@ -4,8 +4,8 @@ use mathlib.Core.List.{List}
 use Rattle.adc.specs.declared.Adc.{Adc}
 use Rattle.audio.specs.declared.Audio.{Audio}
 use Rattle.irq.specs.declared.Latch.{Latch}
-use Rattle.panel.specs.declared.encoder.Enc.{Enc}
-use Rattle.panel.specs.declared.keys.Keys.{Keys}
+use Rattle.encoders.specs.declared.Enc.{Enc}
+use Rattle.keys.specs.declared.Keys.{Keys}
 use Rattle.panel.specs.declared.pins.Pins.{Pins}
 use Rattle.script.specs.declared.Script.{Script}
 use Rattle.spi.specs.declared.Spi.{Spi}

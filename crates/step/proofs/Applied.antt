@@ -10,16 +10,16 @@ use lib.Dec.{eqb, leb, ltb}
 use lib.ListN.{length}
 use Rattle.base.proofs.Cases.{lt-or-ge}
 use Rattle.base.specs.Moments.{clockMax}
-use Rattle.panel.proofs.Held.{vel-kept, with-sized, press-kept, release-kept, pressure-kept}
-use Rattle.panel.proofs.Kept.{encs-turned, enc-turned-kept}
-use Rattle.panel.specs.Encoder.{encOf, encTurned, encsTurned, turnedIf}
-use Rattle.panel.specs.Facts.{EncOk, KeysOk, Sized}
-use Rattle.panel.specs.Keys.{pressOf, releaseOf, pressureOf, turnedRamps}
-use Rattle.panel.specs.Matrix.{isDown}
-use Rattle.panel.specs.declared.encoder.Enc.{Enc}
-use Rattle.panel.specs.declared.keys.Keys.{Keys}
-use Rattle.panel.specs.declared.keys.Pressed.{Pressed}
-use Rattle.panel.specs.declared.keys.Ramps.{Ramps}
+use Rattle.keys.proofs.Held.{vel-kept, with-sized, press-kept, release-kept, pressure-kept}
+use Rattle.encoders.proofs.Kept.{encs-turned, enc-turned-kept}
+use Rattle.encoders.specs.Encoder.{encOf, encTurned, encsTurned, turnedIf}
+use Rattle.encoders.specs.Facts.{EncOk}
+use Rattle.keys.specs.Facts.{KeysOk, Sized}
+use Rattle.keys.specs.Keys.{pressOf, releaseOf, pressureOf, turnedRamps, isDown}
+use Rattle.encoders.specs.declared.Enc.{Enc}
+use Rattle.keys.specs.declared.Keys.{Keys}
+use Rattle.keys.specs.declared.Pressed.{Pressed}
+use Rattle.keys.specs.declared.Ramps.{Ramps}
 use Rattle.pressure.specs.Force.{rampMost}
 use Rattle.records.specs.declared.Action.{Action}
 use Rattle.records.specs.declared.Action.the-variants.{Key, Enc as EncAction, Adc, Midi, KeyVel, Pressure}

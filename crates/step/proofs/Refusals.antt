@@ -7,6 +7,7 @@ use borrow.Author.Tests.{eqb-true, ltb-false, leb-false, lt-ltb, le-ltb}
 use lib.Dec.{eqb, leb, ltb}
 use Rattle.base.proofs.Flags.{both}
 use Rattle.base.specs.Moments.{clockMax}
+use Rattle.base.specs.Refusals.{SIZE, STATE}
 use Rattle.script.specs.Entries.{agreesOf}
 use Rattle.script.specs.Script.{entries, fullOf}
 use Rattle.script.specs.declared.Front.{Front}
@@ -14,7 +15,7 @@ use Rattle.state.specs.State.{boardWhole}
 use Rattle.state.specs.declared.Board.{Board}
 use Rattle.uart.specs.Uart.{queueBytes}
 use Rattle.step.specs.Stages.{nowOf}
-use Rattle.step.specs.Step.{outBytes, waits, isState, stepRefusal, pushRefusal}
+use Rattle.step.specs.Step.{outBytes, waits, isState, wrongSize, pastLimit, stepRefusal, pushRefusal}
 
 -- the step would end past the clock's end, or not: the sum does not wrap
 pub too-late : (now cycles : ℕ) → clockMax - now < cycles → ltb clockMax (now + cycles) ≡ true
@@ -22,6 +23,20 @@ too-late now cycles h = lt-ltb clockMax (now + cycles) (omega arith)
 
 pub in-time : (now cycles : ℕ) → now ≤ clockMax → cycles ≤ clockMax - now → ltb clockMax (now + cycles) ≡ false
 in-time now cycles c h = le-ltb clockMax (now + cycles) (omega arith)
+
+-- the three tests of size as one
+one-size : (q n o : Bool) (rest : ℕ) → _≡_ {A = ℕ} (cond q 2 (cond n 2 (cond o 2 rest))) (cond (cond q true (cond n true o)) 2 rest)
+one-size true n o rest = refl
+one-size false true o rest = refl
+one-size false false o rest = refl
+
+pub in-parts : (b : Board) (cycles : ℕ) (front : Front) (queue out : ℕ) → stepRefusal b cycles front queue out
+    ≡ cond (wrongSize front queue out) SIZE (cond (not (isState b front)) STATE (pastLimit (b .chip .uart .dropped) (nowOf (b .chip)) cycles))
+unfolding stepRefusal
+in-parts b cycles front queue out = one-size (not (eqb queue queueBytes)) (not (eqb (front .len) entries)) (ltb out outBytes) _
+
+pub state-whole : (b : Board) (front : Front) → isState b front ≡ true → boardWhole b ≡ true
+state-whole b front h = both (boardWhole b) (agreesOf (b .chip .script) front) h .0
 
 pub record Accepted (b : Board) (cycles : ℕ) (front : Front) (queue out : ℕ) : Type 0 where
   pub lent : queue ≡ queueBytes

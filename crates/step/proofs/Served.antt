@@ -7,8 +7,8 @@ use borrow.Author.Tests.{lt-ltb, lt-leb}
 use lib.ListN.{length-map}
 use Rattle.audio.proofs.Kept.{audio-at-kept, audio-quiet}
 use Rattle.audio.specs.Audio.{audioAt}
-use Rattle.panel.proofs.Kept.{encs-kept, encs-quiet}
-use Rattle.panel.specs.Encoder.{encsAt, encAt, encsNext}
+use Rattle.encoders.proofs.Kept.{encs-kept, encs-quiet}
+use Rattle.encoders.specs.Encoder.{encsAt, encAt, encsNext}
 use Rattle.script.specs.Script.{frontTime}
 use Rattle.spi.proofs.Kept.{spi1-at-kept, spi2-at-kept, spi1-quiet, spi2-quiet}
 use Rattle.spi.specs.Spi.{spiNext, spi2At}

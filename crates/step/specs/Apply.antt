@@ -2,9 +2,9 @@
 use Prim.Native.Nat.{ℕ}
 use mathlib.Core.List.{List}
 use Rattle.adc.specs.Adc.{valueSet}
-use Rattle.panel.specs.Encoder.{encsTurned}
-use Rattle.panel.specs.Keys.{keyOf, pressureOf, velWritten}
-use Rattle.panel.specs.declared.keys.Ramps.{Ramps}
+use Rattle.encoders.specs.Encoder.{encsTurned}
+use Rattle.keys.specs.Keys.{keyOf, pressureOf, velWritten}
+use Rattle.keys.specs.declared.Ramps.{Ramps}
 use Rattle.records.specs.declared.Action.{Action}
 use Rattle.records.specs.declared.Action.the-variants.{Key, Enc, Adc, Midi, KeyVel, Pressure}
 use Rattle.state.specs.With.{withKeys, withEnc, withUart, dueNow}

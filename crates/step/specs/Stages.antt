@@ -4,7 +4,7 @@ use mathlib.Core.Bool.{false}
 use mathlib.Core.List.{List}
 use Rattle.audio.specs.Audio.{audioAt}
 use Rattle.audio.specs.declared.Half.the-variants.{None as noHalf}
-use Rattle.panel.specs.Encoder.{encsAt}
+use Rattle.encoders.specs.Encoder.{encsAt}
 use Rattle.spi.specs.Spi.{spi1At, spi2At}
 use Rattle.state.specs.State.{usbAt, usbDue, wdtAt, wdtDue}
 use Rattle.state.specs.With.{withT5, withTmr, withTick, withAudio, withSpi, withUart, withHost, withEnc}

@@ -7,6 +7,7 @@ use lib.Dec.{eqb, leb, ltb}
 use lib.ListN.{length}
 use Rattle.audio.specs.declared.Half.the-variants.{None as noHalf}
 use Rattle.base.specs.Moments.{clockMax}
+use Rattle.base.specs.Refusals.{SIZE, STATE, FULL, COUNT, TIME, countMax}
 use Rattle.records.specs.Encoded.{writtenOf}
 use Rattle.records.specs.Layout.{bytesOfTimed}
 use Rattle.records.specs.declared.Wrote.{Wrote}
@@ -46,21 +47,27 @@ isState b front = boardWhole b && agreesOf (b .chip .script) front
 
 -- ---- the refusals, 0 for none: "Checked in the order 2, 3, 4, 5, 6, 7"
 
+-- a lent length is not its own
+abbrev pub wrongSize : Front → ℕ → ℕ → Bool
+wrongSize front queue out = cond (not (eqb queue queueBytes)) true (cond (not (eqb (front .len) entries)) true (ltb out outBytes))
+
+-- what a whole record can still refuse of a step
+abbrev pub pastLimit : ℕ → ℕ → ℕ → ℕ
+pastLimit dropped now cycles = cond (leb countMax dropped) COUNT (cond (ltb clockMax (now + cycles)) TIME 0)
+
 unfoldable pub stepRefusal : Board → ℕ → Front → ℕ → ℕ → ℕ
 stepRefusal b cycles front queue out =
-    cond (not (eqb queue queueBytes)) 2
-    (cond (not (eqb (front .len) entries)) 2
-    (cond (ltb out outBytes) 2
-    (cond (not (isState b front)) 3
-    (cond (leb (2 ^ 62) (b .chip .uart .dropped)) 6
-    (cond (ltb clockMax (nowOf (b .chip) + cycles)) 7
-    0)))))
+    cond (not (eqb queue queueBytes)) SIZE
+    (cond (not (eqb (front .len) entries)) SIZE
+    (cond (ltb out outBytes) SIZE
+    (cond (not (isState b front)) STATE
+    (pastLimit (b .chip .uart .dropped) (nowOf (b .chip)) cycles))))
 
 unfoldable pub pushRefusal : Board → Front → ℕ
 pushRefusal b front =
-    cond (not (eqb (front .len) entries)) 2
-    (cond (not (isState b front)) 3
-    (cond (fullOf (b .chip .script)) 5
+    cond (not (eqb (front .len) entries)) SIZE
+    (cond (not (isState b front)) STATE
+    (cond (fullOf (b .chip .script)) FULL
     0))
 
 -- ---- a step begins

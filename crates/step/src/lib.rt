@@ -8,31 +8,43 @@ mod stages;
 pub use actions::apply;
 use audio::Half;
 use base::CLOCK_MAX;
+use base::COUNT;
+use base::COUNT_MAX;
+use base::FULL;
+use base::SIZE;
+use base::STATE;
+use base::TIME;
 use records::Wrote;
 use records::encode_timed;
 pub use reset::chip_reset;
 pub use reset::zero;
 use script::ENTRIES;
 use script::Entry;
-use script::FULL;
 use script::Front;
-use script::SIZE;
-use script::STATE;
+use script::Script;
 pub use stages::Served;
 pub use stages::serve;
 use state::Board;
+use state::Chip;
 use uart::Byte;
 use uart::QUEUE_BYTES;
 ghost use mathlib.Core.Path.{_≡_};
 ghost use Prim.Native.Nat.{_+_, _≤_, _<_, _^_};
+ghost use mathlib.Core.Bool.{cond};
 ghost use lib.ListN.{length};
 ghost use Rattle.base.specs.Moments.{clockMax};
+ghost use Rattle.state.specs.State.{nextEvent};
 ghost use Rattle.state.specs.Whole.{Whole};
+ghost use Rattle.state.specs.With.{withChip, withScript};
 ghost use Rattle.uart.specs.Uart.{queueBytes};
 ghost use Rattle.step.specs.Step.{
   frontPlace,
+  isState,
+  wrongSize,
+  pastLimit,
   stepRefusal,
   stoppedOf,
+  goingOf,
   startedOf,
   begunOf,
   Ready,
@@ -85,15 +97,8 @@ pub struct Pushing {
     pub refused: u32,
 }
 
-// Refusals beside the script's own: a count that the call can raise is COUNT_MAX or more; the clock would pass its end.
-const COUNT: u32 = 6;
-
-const TIME: u32 = 7;
-
 // Room for the records of as many entries, of at most 17 bytes each.
 const OUT_BYTES: usize = 4352;
-
-const COUNT_MAX: u64 = 0x4000_0000_0000_0000;
 
 // Where the script's front stands.
 pub fn front_place(b: Board) -> usize
@@ -102,33 +107,63 @@ pub fn front_place(b: Board) -> usize
     b.chip.script.front_place()
 }
 
+// The script's three numbers are set one by one: a record in a record in a record is not set at once.
+fn scripted(mut b: Board, s: Script) -> Board
+    ensures { λ r. ⌜ r ≡ withChip b (withScript (b .chip) s) ⌝ }
+{
+    b.chip.script.at = s.at;
+    b.chip.script.place = s.place;
+    b.chip.script.count = s.count;
+    b
+}
+
 // ---- the step
 
-// Why a step is refused, 0 if it is not. The sum is compared so that it cannot wrap.
+// A lent length that is not its own.
+fn wrong_size(front: Front, queue: usize, out: usize) -> bool
+    ensures { λ r. ⌜ r ≡ wrongSize front queue out ⌝ }
+{
+    if queue != QUEUE_BYTES as usize {
+        return true;
+    }
+    if front.len != ENTRIES as usize {
+        return true;
+    }
+    out < OUT_BYTES
+}
+
+fn is_state(b: Board, front: Front) -> bool
+    ensures { λ r. ⌜ r ≡ isState b front ⌝ }
+{
+    if b.whole() {
+        return b.chip.script.agrees(front);
+    }
+    false
+}
+
+// What a whole record can still refuse of a step. The sum is compared so that it cannot wrap.
+pub fn past_limit(dropped: u64, now: u64, cycles: u64) -> u32
+    requires { ⌜ now ≤ clockMax ⌝ }
+    ensures { λ r. ⌜ r ≡ pastLimit dropped now cycles ⌝ }
+{
+    if COUNT_MAX <= dropped {
+        return COUNT;
+    }
+    if CLOCK_MAX - now < cycles {
+        return TIME;
+    }
+    0
+}
+
+// Why a step is refused, 0 if it is not.
 fn step_refusal(b: Board, cycles: u64, front: Front, queue: usize, out: usize) -> u32
     ensures { λ r. ⌜ r ≡ stepRefusal b cycles front queue out ⌝ }
 {
-    if queue != QUEUE_BYTES as usize {
+    if wrong_size(front, queue, out) {
         return SIZE;
     }
-    if front.len != ENTRIES as usize {
-        return SIZE;
-    }
-    if out < OUT_BYTES {
-        return SIZE;
-    }
-    if b.whole() {
-        let c = b.chip;
-        if c.script.agrees(front) {
-            if COUNT_MAX <= c.uart.dropped {
-                return COUNT;
-            }
-            if CLOCK_MAX - c.clock.cycles < cycles {
-                return TIME;
-            }
-            return 0;
-        }
-        return STATE;
+    if is_state(b, front) {
+        return past_limit(b.chip.uart.dropped, b.chip.clock.cycles, cycles);
     }
     STATE
 }
@@ -152,28 +187,17 @@ fn stopped(b: Board, number: u32) -> Going
     }
 }
 
-// The clock moves. Before `next_due` that is all; else the stages are served, and the script is looked at.
-pub fn started(b: Board, cycles: u64, queue: &[u8]) -> Going
-    requires { ⌜ Whole b × (length (queue .now) ≡ queueBytes) × (b .chip .clock .cycles + cycles ≤ clockMax) × (b .chip .uart .dropped < 2 ^ 62) ⌝ }
-    ensures { λ r. ⌜ r ≡ startedOf b cycles (queue .entry .now) ⌝ }
+// A step that was served goes on to the script, if entries wait.
+fn goes_on(mut b: Board, s: Served) -> Going
+    ensures { λ r. ⌜ r ≡ goingOf b s ⌝ }
 {
-    let mut c = b.chip;
-    let p = b.panel;
-    let now = c.clock.cycles + cycles;
-    c.clock.cycles = now;
-    if now < c.clock.next_due {
-        let quiet = Board { chip: c, panel: p };
-        return stopped(quiet, 0);
-    }
-    let s = serve(c, queue);
-    let d = s.chip;
+    let c = s.chip;
+    b.chip = c;
     let half = s.audio_half;
     let byte = s.uart_rx;
-    let n = d.script.count;
-    let place = d.script.front_place();
-    let board = Board { chip: d, panel: p };
+    let place = c.script.front_place();
     Going {
-        board: board,
+        board: b,
         audio_half: half,
         uart_rx: byte,
         written: 0,
@@ -182,9 +206,23 @@ pub fn started(b: Board, cycles: u64, queue: &[u8]) -> Going
         refused: 0,
         usb_frame: s.usb_frame,
         wdt: s.wdt,
-        on: 0 < n,
+        on: 0 < c.script.count,
         served: true,
     }
+}
+
+// The clock moves. Before `next_due` that is all; else the stages are served, and the script is looked at.
+pub fn started(mut b: Board, cycles: u64, queue: &[u8]) -> Going
+    requires { ⌜ Whole b × (length (queue .now) ≡ queueBytes) × (b .chip .clock .cycles + cycles ≤ clockMax) × (b .chip .uart .dropped < 2 ^ 62) ⌝ }
+    ensures { λ r. ⌜ r ≡ startedOf b cycles (queue .entry .now) ⌝ }
+{
+    let now = b.chip.clock.cycles + cycles;
+    b.chip.clock.cycles = now;
+    if now < b.chip.clock.next_due {
+        return stopped(b, 0);
+    }
+    let s = serve(b.chip, queue);
+    goes_on(b, s)
 }
 
 // The step as far as the script; `front` is what stands at `front_place`.
@@ -216,24 +254,17 @@ pub fn turned(mut g: Going, e: Entry, queue: &mut [u8], out: &mut [u8]) -> Going
         × (now (queue .exit) ≡ queueOf g e (now (queue .entry)))
         × (now (out .exit) ≡ outOf g e (now (out .entry))) ⌝ }
 {
-    let b = g.board;
-    let mut c = b.chip;
-    let p = b.panel;
-    if c.clock.cycles < e.at {
-        let noted = c.script.looked(e.at);
-        c.script = noted;
-        let same = Board { chip: c, panel: p };
-        g.board = same;
+    if g.board.chip.clock.cycles < e.at {
+        let noted = g.board.chip.script.looked(e.at);
+        g.board = scripted(g.board, noted);
         g.on = false;
         return g;
     }
-    let rest = c.script.taken();
-    c.script = rest;
+    let rest = g.board.chip.script.taken();
+    g.board = scripted(g.board, rest);
     let action = e.action;
-    let shorter = Board { chip: c, panel: p };
-    let acted = apply(shorter, action, queue);
+    g.board = apply(g.board, action, queue);
     let wrote = encode_timed(out, g.written, e.at, action);
-    g.board = acted;
     g.written = reached(wrote, g.written);
     g.place = rest.front_place();
     g.applied = g.applied + 1;
@@ -241,31 +272,27 @@ pub fn turned(mut g: Going, e: Entry, queue: &mut [u8], out: &mut [u8]) -> Going
     g
 }
 
-// The answer. A step that was served knows when the next event comes.
-pub fn finished(g: Going) -> Stepped
+// A step that was served knows when the next event comes.
+fn due(c: Chip, served: bool) -> u64
+    ensures { λ r. ⌜ r ≡ cond served (nextEvent c) (c .clock .«next_due») ⌝ }
+{
+    if served {
+        return c.next_event();
+    }
+    c.clock.next_due
+}
+
+// The answer.
+pub fn finished(mut g: Going) -> Stepped
     ensures { λ r. ⌜ r ≡ finishedOf g ⌝ }
 {
-    let mut b = g.board;
+    let next = due(g.board.chip, g.served);
+    g.board.chip.clock.next_due = next;
+    let board = g.board;
     let half = g.audio_half;
     let byte = g.uart_rx;
-    if g.served {
-        let mut c = b.chip;
-        let next = c.next_event();
-        c.clock.next_due = next;
-        b.chip = c;
-        return Stepped {
-            board: b,
-            audio_half: half,
-            uart_rx: byte,
-            written: g.written,
-            applied: g.applied,
-            refused: g.refused,
-            usb_frame: g.usb_frame,
-            wdt: g.wdt,
-        };
-    }
     Stepped {
-        board: b,
+        board: board,
         audio_half: half,
         uart_rx: byte,
         written: g.written,
@@ -284,21 +311,17 @@ fn push_refusal(b: Board, front: Front) -> u32
     if front.len != ENTRIES as usize {
         return SIZE;
     }
-    if b.whole() {
-        let c = b.chip;
-        if c.script.agrees(front) {
-            if c.script.full() {
-                return FULL;
-            }
-            return 0;
+    if is_state(b, front) {
+        if b.chip.script.full() {
+            return FULL;
         }
-        return STATE;
+        return 0;
     }
     STATE
 }
 
 // One more entry waits, at time `at`; the next step looks at everything.
-pub fn placed(b: Board, front: Front, at: u64) -> Spot
+pub fn placed(mut b: Board, front: Front, at: u64) -> Spot
     ensures { λ r. ⌜ r ≡ placedOf b front at ⌝ }
 {
     let number = push_refusal(b, front);
@@ -310,15 +333,12 @@ pub fn placed(b: Board, front: Front, at: u64) -> Spot
             ok: false,
         };
     }
-    let mut c = b.chip;
-    let p = b.panel;
-    let place = c.script.spot();
-    let more = c.script.pushed(at);
-    c.script = more;
-    c.clock.next_due = 0;
-    let board = Board { chip: c, panel: p };
+    let place = b.chip.script.spot();
+    let more = b.chip.script.pushed(at);
+    b = scripted(b, more);
+    b.chip.clock.next_due = 0;
     Spot {
-        board: board,
+        board: b,
         place: place,
         refused: 0,
         ok: true,

@@ -45,7 +45,7 @@ fn reset(old: Chip) -> Chip
     c
 }
 
-pub fn chip_reset(b: Board, icfg: &mut [u32], icfg1: &mut [u32]) -> Board
+pub fn chip_reset(mut b: Board, icfg: &mut [u32], icfg1: &mut [u32]) -> Board
     requires { ⌜ (length (icfg .now) ≡ bankWords) × (length (icfg1 .now) ≡ bankWords) ⌝ }
     ensures { λ r. ⌜ r ≡ chipReset b ⌝ }
     ensures bank { λ r. ⌜ icfg .exit .now ≡ zeroed (icfg .entry .now) ⌝ }
@@ -53,8 +53,6 @@ pub fn chip_reset(b: Board, icfg: &mut [u32], icfg1: &mut [u32]) -> Board
 {
     zero(icfg);
     zero(icfg1);
-    let old = b.chip;
-    let c = reset(old);
-    let p = b.panel;
-    Board { chip: c, panel: p }
+    b.chip = reset(b.chip);
+    b
 }

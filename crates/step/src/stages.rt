@@ -61,26 +61,26 @@ fn last_stages(mut c: Chip) -> Chip
 }
 
 // All of them: between the others audio, which hands out a finished half, and the byte that has arrived. A byte rearms the timeout before that is looked at.
-pub fn serve(c: Chip, queue: &[u8]) -> Served
+pub fn serve(mut c: Chip, queue: &[u8]) -> Served
     requires { ⌜ ChipOk c × (length (queue .now) ≡ queueBytes) × (c .uart .dropped < 2 ^ 62) ⌝ }
     ensures { λ r. ⌜ r ≡ servedOf c (queue .entry .now) ⌝ }
 {
     let now = c.clock.cycles;
     let hz = c.clock.hz;
-    let mut d = first_stages(c);
-    let played = d.audio.at(now, hz);
+    c = first_stages(c);
+    let played = c.audio.at(now, hz);
     let audio = played.audio;
     let half = played.half;
-    d.audio = audio;
-    let received = d.uart.receive_at(queue, now, hz);
+    c.audio = audio;
+    let received = c.uart.receive_at(queue, now, hz);
     let uart = received.uart;
     let byte = received.byte;
-    d.uart = uart;
-    let usb_frame = d.host.usb_next <= now;
-    let wdt = d.host.wdt_at <= now;
-    let e = last_stages(d);
+    c.uart = uart;
+    let usb_frame = c.host.usb_next <= now;
+    let wdt = c.host.wdt_at <= now;
+    c = last_stages(c);
     Served {
-        chip: e,
+        chip: c,
         audio_half: half,
         uart_rx: byte,
         usb_frame: usb_frame,

@@ -6,7 +6,7 @@ use Prim.Native.Nat.{ℕ, _+_, _<_, _^_}
 use native.Mathlib.Omega.{arith}
 use lib.Dec.{ltb}
 use lib.ListN.{length}
-use Rattle.panel.specs.Facts.{RampsShort}
+use Rattle.keys.specs.Facts.{RampsShort}
 use Rattle.records.specs.Encoded.{answerOf, writtenOf}
 use Rattle.records.specs.declared.Wrote.{Wrote}
 use Rattle.script.specs.Script.{lookedOf, takenOf, nextPlace}

@@ -5,7 +5,7 @@ use mathlib.Core.List.{List}
 use mathlib.Core.Path.{_≡_}
 use lib.Ieee.{Float}
 use Rattle.audio.specs.declared.Half.the-variants.{None as noHalf}
-use Rattle.panel.specs.Keys.{rampsOf}
+use Rattle.keys.specs.Keys.{rampsOf}
 use Rattle.state.specs.declared.Board.{Board}
 use Rattle.state.specs.declared.Chip.{Chip}
 use Rattle.state.specs.declared.Panel.{Panel}

@@ -1,5 +1,5 @@
 use mathlib.Core.Path.{_∙_}
-use Rattle.panel.specs.Keys.{rampsOf}
+use Rattle.keys.specs.Keys.{rampsOf}
 use Rattle.adc.proofs.Channels.{of-row, of-store}
 use borrow.Author.Needs.{needs}
 use Rattle.adc.proofs.channel_reads.Statement.{statement}

@@ -1,5 +1,5 @@
 use Rattle.adc.proofs.Turns.{least-none, least-on, least-off}
-use Rattle.panel.specs.Keys.{rampsOf}
+use Rattle.keys.specs.Keys.{rampsOf}
 use Rattle.adc.specs.Adc.{leastTo}
 use borrow.Author.Tests.{eq-eqb, ne-eqb}
 use native.Mathlib.Omega.{arith}

@@ -41,7 +41,7 @@ use denote.Triple.Clauses.{ensured, lasts}
 use denote.Triple.Walked.{says, Stays, stay-none, stay-none-slice, stay-dropped, gave-slice, walkOf, AllGo, goes-none, goes-none-slice, goes-dropped, goes-gave-slice, Walks, ends-at, walked, walk-meets}
 use denote.Exit.{yes}
 use Rattle.script.specs.declared.Entry.{Entry}
-use Rattle.board.specs.declared.Done.{Done}
+use Rattle.guard.specs.declared.Done.{Done}
 use Rattle.board.specs.Steps.{newRefused, newCall, newBank}
 use Rattle.bridges.proofs.Local.{AR, valsA, mS, tA, IsS, inLocal, count, has-script, Shared, Sharer, lends-shared, back-shared}
 use Rattle.entries.proofs.new.Symbol.{name as #called}
@@ -50,8 +50,8 @@ use denote.Struct.Laws as LL
 use denote.Enum.Laws as EL
 use Rattle.script.proofs.Entry as T
 use Rattle.script.proofs.Entry.Laws as T′
-use Rattle.board.proofs.Done as D
-use Rattle.board.proofs.Done.Laws as D′
+use Rattle.guard.proofs.Done as D
+use Rattle.guard.proofs.Done.Laws as D′
 use Rattle.entries.proofs.new as called
 use Rattle.entries.proofs.new.Symbol as called-def
 use Rattle.entries.proofs.new.Met as called-thm

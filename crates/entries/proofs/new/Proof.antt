@@ -40,7 +40,7 @@ use denote.Triple.Table.{entered, cited}
 use denote.Triple.Clauses.{ensured, lasts}
 use denote.Triple.Walked.{says, Stays, stay-slice, stay-none, stay-none-slice, walkOf, AllGo, goes-slice, goes-none, goes-none-slice, Walks, ends-at, walked, walk-meets}
 use denote.Exit.{yes}
-use Rattle.board.specs.declared.Done.{Done}
+use Rattle.guard.specs.declared.Done.{Done}
 use Rattle.board.specs.Steps.{newRefused, newCall, newBank}
 use Rattle.script.specs.declared.Entry.{Entry}
 use Rattle.script.specs.declared.Front.{Front}
@@ -54,8 +54,8 @@ use denote.Struct.Laws as LL
 use Rattle.script.proofs.Entry as E
 use Rattle.script.proofs.Front as F
 use Rattle.script.proofs.Front.Laws as F′
-use Rattle.board.proofs.Done as D
-use Rattle.board.proofs.Done.Laws as D′
+use Rattle.guard.proofs.Done as D
+use Rattle.guard.proofs.Done.Laws as D′
 use Rattle.script.proofs.look.Symbol as look-def
 use Rattle.script.proofs.look.Met as look-thm
 use Rattle.board.proofs.made as made

@@ -1,5 +1,5 @@
 use mathlib.Core.Path.{ap}
-use Rattle.board.specs.declared.Lit.{Lit}
+use Rattle.controls.specs.declared.Lit.{Lit}
 use borrow.Author.Needs.{needs}
 use Rattle.lent.proofs.lit.Statement.{statement}
 use Rattle.lent.proofs.lit.Tie as tie

@@ -1,5 +1,5 @@
-use Rattle.board.proofs.Known.{makes}
 use Rattle.board.specs.Steps.{newCall}
+use Rattle.board.proofs.Known.{makes}
 use borrow.Author.Tests.{eq-eqb, ne-eqb}
 use native.Mathlib.Omega.{arith}
 use mathlib.Core.Path.{sym, _∙_}
@@ -10,15 +10,12 @@ use Rattle.board.proofs.steps.made.Tie as tie
 new-refused-requires : tie.Need-new-refused-requires
 new-refused-requires c κs = search needs
 
-new-requires : tie.Need-new-requires
-new-requires c κs = search needs
-
-turned-away-requires : tie.Need-turned-away-requires
-turned-away-requires c κs = search needs
+fresh-requires : tie.Need-fresh-requires
+fresh-requires c κs = search needs
 
 returns : tie.Need-returns
 unfolding newCall
-returns c = (rw (sym (c .before .before .before .new-refused .ensures), ne-eqb _ _ (c .before .before .if1 .taken), c .turned-away .ensures, c .before .new .ensures), (rw (sym (c .before .before .before .new-refused .ensures), ne-eqb _ _ (c .before .before .if1 .taken)), rw (sym (c .before .before .before .new-refused .ensures), ne-eqb _ _ (c .before .before .if1 .taken))))
+returns c = (rw (sym (c .before .before .new-refused .ensures), ne-eqb _ _ (c .before .if1 .taken), c .fresh .ensures), (rw (sym (c .before .before .new-refused .ensures), ne-eqb _ _ (c .before .if1 .taken)), rw (sym (c .before .before .new-refused .ensures), ne-eqb _ _ (c .before .if1 .taken))))
 
 zero-requires : tie.Need-zero-requires
 zero-requires c κs = makes _ _ _ _ _ (sym (c .before .before .new-refused .ensures) ∙ c .before .if1 .left) .first
@@ -26,14 +23,11 @@ zero-requires c κs = makes _ _ _ _ _ (sym (c .before .before .new-refused .ensu
 zero-requires-2 : tie.Need-zero-requires-2
 zero-requires-2 c κs = makes _ _ _ _ _ (sym (c .before .before .before .before .before .before .new-refused .ensures) ∙ c .before .before .before .before .before .if1 .left) .second
 
-cast-new : tie.Need-cast-new
-cast-new c = let m = makes _ _ _ _ _ (sym (c .before .before .before .before .before .before .before .before .before .new-refused .ensures) ∙ c .before .before .before .before .before .before .before .before .if1 .left) in omega (arith, m .high)
+cast-fresh : tie.Need-cast-fresh
+cast-fresh c = let m = makes _ _ _ _ _ (sym (c .before .before .before .before .before .before .before .before .before .new-refused .ensures) ∙ c .before .before .before .before .before .before .before .before .if1 .left) in omega (arith, m .high)
 
-new-requires-2 : tie.Need-new-requires-2
-new-requires-2 c κs = search needs
-
-turned-away-requires-2 : tie.Need-turned-away-requires-2
-turned-away-requires-2 c κs = search needs
+fresh-requires-2 : tie.Need-fresh-requires-2
+fresh-requires-2 c κs = search needs
 
 same-length : tie.Need-same-length
 same-length c = search needs
@@ -43,21 +37,19 @@ same-length-2 c = search needs
 
 returns-2 : tie.Need-returns-2
 unfolding newCall
-returns-2 c = (rw (sym (c .before .before .before .before .before .before .before .before .before .before .before .new-refused .ensures), eq-eqb _ _ (c .before .before .before .before .before .before .before .before .before .before .if1 .left), c .turned-away2 .ensures, c .before .new2 .ensures), (rw (sym (c .before .before .before .before .before .before .before .before .before .before .before .new-refused .ensures), eq-eqb _ _ (c .before .before .before .before .before .before .before .before .before .before .if1 .left), c .before .before .before .before .before .before .before .before .zero .ensures), rw (sym (c .before .before .before .before .before .before .before .before .before .before .before .new-refused .ensures), eq-eqb _ _ (c .before .before .before .before .before .before .before .before .before .before .if1 .left), c .before .before .before .before .zero2 .ensures)))
+returns-2 c = (rw (sym (c .before .before .before .before .before .before .before .before .before .before .new-refused .ensures), eq-eqb _ _ (c .before .before .before .before .before .before .before .before .before .if1 .left), c .fresh2 .ensures), (rw (sym (c .before .before .before .before .before .before .before .before .before .before .new-refused .ensures), eq-eqb _ _ (c .before .before .before .before .before .before .before .before .before .if1 .left), c .before .before .before .before .before .before .before .zero .ensures), rw (sym (c .before .before .before .before .before .before .before .before .before .before .new-refused .ensures), eq-eqb _ _ (c .before .before .before .before .before .before .before .before .before .if1 .left), c .before .before .before .zero2 .ensures)))
 
 pub made-spec : {M : Type 1} → statement M
 made-spec =
     tie.close
     (tie.spec
     new-refused-requires
-    new-requires
-    turned-away-requires
+    fresh-requires
     returns
     zero-requires
     zero-requires-2
-    cast-new
-    new-requires-2
-    turned-away-requires-2
+    cast-fresh
+    fresh-requires-2
     same-length
     same-length-2
     returns-2)

@@ -4,12 +4,12 @@ use borrow.Author.Needs.{needs}
 use Rattle.capi.proofs.calls.fm1_set_exc_pending.Statement.{statement}
 use Rattle.capi.proofs.calls.fm1_set_exc_pending.Tie as tie
 
-no-flag-requires : tie.Need-no-flag-requires
-no-flag-requires c κs = search needs
+turned-away-requires : tie.Need-turned-away-requires
+turned-away-requires c κs = search needs
 
 returns : tie.Need-returns
 unfolding flagged
-returns c = rw (lt-ltb _ _ (c .before .if1 .taken), c .no-flag .ensures)
+returns c = rw (lt-ltb _ _ (c .before .if1 .taken), c .turned-away .ensures)
 
 set-exc-pending-requires : tie.Need-set-exc-pending-requires
 set-exc-pending-requires c κs = search needs
@@ -21,4 +21,4 @@ returns-2 c = rw (le-ltb _ _ (c .before .if1 .left), c .set-exc-pending .ensures
 pub fm1-set-exc-pending-spec : {M : Type 1} → statement M
 fm1-set-exc-pending-spec =
     tie.close
-    (tie.spec no-flag-requires returns set-exc-pending-requires returns-2)
+    (tie.spec turned-away-requires returns set-exc-pending-requires returns-2)

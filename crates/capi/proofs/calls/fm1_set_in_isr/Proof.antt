@@ -4,12 +4,12 @@ use borrow.Author.Needs.{needs}
 use Rattle.capi.proofs.calls.fm1_set_in_isr.Statement.{statement}
 use Rattle.capi.proofs.calls.fm1_set_in_isr.Tie as tie
 
-no-flag-requires : tie.Need-no-flag-requires
-no-flag-requires c κs = search needs
+turned-away-requires : tie.Need-turned-away-requires
+turned-away-requires c κs = search needs
 
 returns : tie.Need-returns
 unfolding flagged
-returns c = rw (lt-ltb _ _ (c .before .if1 .taken), c .no-flag .ensures)
+returns c = rw (lt-ltb _ _ (c .before .if1 .taken), c .turned-away .ensures)
 
 set-in-isr-requires : tie.Need-set-in-isr-requires
 set-in-isr-requires c κs = search needs
@@ -20,4 +20,4 @@ returns-2 c = rw (le-ltb _ _ (c .before .if1 .left), c .set-in-isr .ensures)
 
 pub fm1-set-in-isr-spec : {M : Type 1} → statement M
 fm1-set-in-isr-spec =
-    tie.close (tie.spec no-flag-requires returns set-in-isr-requires returns-2)
+    tie.close (tie.spec turned-away-requires returns set-in-isr-requires returns-2)

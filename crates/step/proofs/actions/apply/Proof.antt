@@ -1,5 +1,5 @@
 use Rattle.step.specs.Apply.{applyOf, actedOn, applyIn}
-use Rattle.panel.proofs.Held.{ramps-short}
+use Rattle.keys.proofs.Held.{ramps-short}
 use mathlib.Core.Path.{refl}
 use borrow.Author.Needs.{needs}
 use Rattle.step.proofs.actions.apply.Statement.{statement}

@@ -21,7 +21,7 @@ same-length-2 c = search needs
 
 returns : tie.Need-returns
 unfolding chipReset
-returns c = rw (c .before .reset .ensures) (refl, (c .before .before .before .before .before .before .before .before .before .zero .ensures, c .before .before .before .before .before .zero2 .ensures))
+returns c = rw (c .reset .ensures) (refl, (c .before .before .before .before .before .before .before .zero .ensures, c .before .before .before .zero2 .ensures))
 
 pub chip-reset-spec : {M : Type 1} → statement M
 chip-reset-spec =
