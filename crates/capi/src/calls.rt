@@ -10,11 +10,11 @@ use edge::Advanced;
 use edge::Chosen;
 use edge::Reading;
 use edge::Said;
+use edge::advance;
 use edge::of_chosen;
 use edge::of_id;
 use edge::of_pushing;
 use edge::of_reading;
-use edge::of_stepped;
 use guard::turned_away;
 use script::action_of;
 use state::Board;
@@ -72,7 +72,7 @@ pub extern "C" fn fm1_advance(
         × (now (queue .exit) ≡ ran b cycles (wordsAt (now (script .entry))) (placesIn (now (script .entry))) (now (queue .entry)) (now (out .entry)) .1 .0)
         × (now (out .exit) ≡ ran b cycles (wordsAt (now (script .entry))) (placesIn (now (script .entry))) (now (queue .entry)) (now (out .entry)) .1 .1) ⌝ }
 {
-    of_stepped(words::advance(b, cycles, queue, script, out))
+    advance(b, cycles, queue, script, out)
 }
 
 // An action for the step that reaches `time`. SIZE, STATE, FULL.

@@ -13,6 +13,9 @@ use step::Pushing;
 use step::Stepped;
 use uart::Byte;
 ghost use mathlib.Core.Path.{_≡_};
+ghost use Rattle.script.specs.Words.{wordsAt};
+ghost use Rattle.step.specs.Step.{ran, stepOf};
+ghost use Rattle.words.specs.Words.{placesIn};
 ghost use Rattle.edge.specs.Edge.{
   saidOf,
   ofPushing,
@@ -197,6 +200,15 @@ pub fn of_stepped(s: Stepped) -> Advanced
             wdt: when(s.wdt, 1),
         },
     }
+}
+
+// The step over words, with its answer so.
+pub fn advance(b: Board, cycles: u64, queue: &mut [u8], script: &[u64], out: &mut [u8]) -> Advanced
+    ensures { λ r. ⌜ (r ≡ ofStepped (stepOf b cycles (wordsAt (now (script .entry))) (placesIn (now (script .entry))) (now (queue .entry)) (now (out .entry))))
+        × (now (queue .exit) ≡ ran b cycles (wordsAt (now (script .entry))) (placesIn (now (script .entry))) (now (queue .entry)) (now (out .entry)) .1 .0)
+        × (now (out .exit) ≡ ran b cycles (wordsAt (now (script .entry))) (placesIn (now (script .entry))) (now (queue .entry)) (now (out .entry)) .1 .1) ⌝ }
+{
+    of_stepped(words::advance(b, cycles, queue, script, out))
 }
 
 pub fn of_choice(refused: u32, c: Choice) -> Chosen

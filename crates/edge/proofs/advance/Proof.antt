@@ -1,8 +1,8 @@
 use Rattle.edge.specs.Edge.{ofStepped}
 use mathlib.Core.Path.{_∙_, ap}
 use borrow.Author.Needs.{needs}
-use Rattle.capi.proofs.calls.fm1_advance.Statement.{statement}
-use Rattle.capi.proofs.calls.fm1_advance.Tie as tie
+use Rattle.edge.proofs.advance.Statement.{statement}
+use Rattle.edge.proofs.advance.Tie as tie
 
 advance-requires : tie.Need-advance-requires
 advance-requires c κs = search needs
@@ -19,6 +19,6 @@ same-length-2 c = search needs
 returns : tie.Need-returns
 returns c = (c .of-stepped .ensures ∙ ap ofStepped (c .before .before .before .before .before .advance .ensures .0), c .before .before .before .before .before .advance .ensures .1, c .before .before .before .before .before .advance .ensures .2)
 
-pub fm1-advance-spec : {M : Type 1} → statement M
-fm1-advance-spec =
+pub advance-spec : {M : Type 1} → statement M
+advance-spec =
     tie.close (tie.spec advance-requires of-stepped-requires same-length same-length-2 returns)
