@@ -112,30 +112,30 @@ fn carried_out(
     }
 }
 
-fn pushed(b: Board, script: [Entry; 256], time: u64, action: Action) -> Outcome {
+fn pushed(mut b: Board, mut script: [Entry; 256], time: u64, action: Action) -> Outcome {
     let h = push_in(b, script, time, action);
     let p = h.pushing;
-    let after = p.board;
-    let entries = h.script;
+    b = p.board;
+    script = h.script;
     Outcome {
-        board: after,
-        script: entries,
+        board: b,
+        script: script,
         answer: Answer::Pushed { number: p.refused },
     }
 }
 
 fn stepped(
-    b: Board,
+    mut b: Board,
     script: [Entry; 256],
     cycles: u64,
     queue: &mut [u8; 3125],
     acts: &mut [u8; 4352],
 ) -> Outcome {
     let t = told(advance_in(b, cycles, queue, script, acts));
-    let after = t.board;
+    b = t.board;
     let answer = t.answer;
     Outcome {
-        board: after,
+        board: b,
         script: script,
         answer: answer,
     }
@@ -143,7 +143,7 @@ fn stepped(
 
 // A read, a write, a broken record, or the end: none uses the script.
 fn other(
-    b: Board,
+    mut b: Board,
     script: [Entry; 256],
     found: RecordAt,
     queue: &mut [u8; 3125],
@@ -153,10 +153,10 @@ fn other(
 ) -> Outcome {
     let mut none = [0u64; 2];
     let c = carry_out(b, found, queue, &mut none, icfg, icfg1, acts);
-    let after = c.board;
+    b = c.board;
     let answer = c.answer;
     Outcome {
-        board: after,
+        board: b,
         script: script,
         answer: answer,
     }
