@@ -56,7 +56,7 @@ class Driver:
 class Entries(Driver):
     """The driver's records, on the program whose script is lent as entries."""
 
-    crate = "by_entries"
+    crate = "driver_entries"
 
     def stored(self, seed):
         return driver.waiting(seed)

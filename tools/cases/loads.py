@@ -1,4 +1,4 @@
-"""What tools/bench counts: records for the driver, a kind of work each, and a mix of all."""
+"""What tools/measure/bench counts: records for the driver, a kind of work each, and a mix of all."""
 import board
 import driver
 import front

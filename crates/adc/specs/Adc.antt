@@ -60,10 +60,14 @@ channelReads m p ramps stored now noise ch =
 abbrev pub conRead : Adc → ℕ
 conRead a = bitOr (bitAnd (a .con) 0xffffff7f) (whenOf (not (eqb (a .done) 0)) 0x80)
 
+-- the converter with another CON, noise, done flag, interrupt line and sample
+abbrev pub adcWith : Adc → ℕ → ℕ → ℕ → ℕ → ℕ → Adc
+adcWith a con noise done irq sample = record { con = con; noise = noise; done = done; irq = irq; sample = sample }
+
 -- bit 6 without bit 4 acknowledges
 abbrev pub acknowledged : Adc → ℕ → Wrote
 acknowledged a v =
-    record { adc = record { con = v; noise = a .noise; done = 0; irq = 0; sample = a .sample }; due = not (eqb (a .irq) 0) }
+    record { adc = adcWith a v (a .noise) 0 0 (a .sample); due = not (eqb (a .irq) 0) }
 
 -- the interrupt line, and whether it changes
 abbrev pub lineOf : Bool → ℕ
@@ -75,13 +79,7 @@ movesOf raises irq = cond raises (eqb irq 0) (not (eqb irq 0))
 -- bit 6 with bit 4 converts at once; with bit 5 it raises the interrupt. Only a change of that line is timed.
 unfoldable pub converted : Adc → Map → Pins → Ramps → List ℕ → ℕ → ℕ → Wrote
 converted a m p ramps values now v = record {
-  adc = record {
-    con = v;
-    noise = got .noise;
-    done = 1;
-    irq = lineOf (isSet v 0x20);
-    sample = got .sample;
-  };
+  adc = adcWith a v (got .noise) 1 (lineOf (isSet v 0x20)) (got .sample);
   due = movesOf (isSet v 0x20) (a .irq);
 }
   where
@@ -92,7 +90,7 @@ converted a m p ramps values now v = record {
 unfoldable pub conWritten : Adc → Map → Pins → Ramps → List ℕ → ℕ → ℕ → Wrote
 conWritten a m p ramps values now v =
     cond (eqb (bitAnd v 0x40) 0)
-    (record { adc = record { con = v; noise = a .noise; done = a .done; irq = a .irq; sample = a .sample }; due = false })
+    (record { adc = adcWith a v (a .noise) (a .done) (a .irq) (a .sample); due = false })
     (cond (eqb (bitAnd v 0x10) 0) (acknowledged a v) (converted a m p ramps values now v))
 
 -- action Adc: sixteen channels, values up to 1023

@@ -1,17 +1,17 @@
--- What a line is answered. Forms are told by their places in `telling`'s list.
+-- What a line is answered. Forms are told by their places in `line_answer`'s list.
 use Prim.Native.Nat.{ℕ}
 use mathlib.Core.Bool.{true, false, cond}
 use mathlib.Core.List.{List}
 use lib.Dec.{eqb}
-use Rattle.asking.specs.Asks.{idIn}
-use Rattle.asking.specs.WordsIn.{wordsOf, restOf}
-use Rattle.asking.specs.declared.Ask.{Ask}
-use Rattle.asking.specs.declared.words_in.Words.{Words}
-use Rattle.reciting.specs.Recited.{recordIn}
-use Rattle.reckoning.specs.Forces.{rampIn}
-use Rattle.reckoning.specs.Questions.{reckonedIn}
-use Rattle.telling.specs.Answers.{twoOf}
-use Rattle.telling.specs.declared.Answer.{Answer}
+use Rattle.line_ask.specs.Asks.{idIn}
+use Rattle.line_ask.specs.WordsIn.{wordsOf, restOf}
+use Rattle.line_ask.specs.declared.Ask.{Ask}
+use Rattle.line_ask.specs.declared.words_in.Words.{Words}
+use Rattle.asks_records.specs.Recited.{recordIn}
+use Rattle.asks_times.specs.Forces.{rampIn}
+use Rattle.asks_times.specs.Questions.{reckonedIn}
+use Rattle.line_answer.specs.Answers.{twoOf}
+use Rattle.line_answer.specs.declared.Answer.{Answer}
 use Rattle.text.specs.Ascii.{bytes}
 use Rattle.text.specs.Spans.{isPassedOver, isText}
 use Rattle.text.specs.declared.Number.{Number}

@@ -1,20 +1,20 @@
-// What a line asks, and its answer. `asking` reads the words, `reckoning` and `reciting` work out the result, `telling` shows it.
-use asking::Ask;
-use asking::NAMED;
-use asking::NO_NAME;
-use asking::Words;
-use asking::id_in;
-use asking::rest;
-use asking::words_of;
-use reciting::record_in;
-use reckoning::ramp_in;
-use reckoning::reckoned;
-use telling::Answer;
-use telling::NO_CALL;
-use telling::NO_LINE;
-use telling::NONE;
-use telling::number;
-use telling::two;
+// What a line asks, and its answer. `line_ask` reads the words, `asks_times` and `asks_records` work out the result, `line_answer` shows it.
+use asks_records::record_in;
+use asks_times::ramp_in;
+use asks_times::reckoned;
+use line_answer::Answer;
+use line_answer::NO_CALL;
+use line_answer::NO_LINE;
+use line_answer::NONE;
+use line_answer::number;
+use line_answer::two;
+use line_ask::Ask;
+use line_ask::NAMED;
+use line_ask::NO_NAME;
+use line_ask::Words;
+use line_ask::id_in;
+use line_ask::rest;
+use line_ask::words_of;
 use text::Number;
 use text::Span;
 use text::is;

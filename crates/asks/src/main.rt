@@ -24,12 +24,15 @@
 mod answers;
 
 use answers::answer;
-use telling::Answer;
-use telling::LONG_LINE;
-use telling::put_line;
-use telling::two;
+use line_answer::Answer;
+use line_answer::LONG_LINE;
+use line_answer::put_line;
+use line_answer::two;
+use text::Span;
+use text::bytes_of;
 use text::first;
-use text::put;
+use text::line_end;
+use text::put_text;
 
 // The line so far, and the answers that wait.
 struct Went {
@@ -55,19 +58,30 @@ fn main() {
     flush(&out, last);
 }
 
-// The bytes of one read: a line's end answers it, any other byte joins the line. A full line is too long, and stays so.
+// The bytes of one read, line by line: what stands before a line's end joins the line, and the end answers it. A full line is too long, and stays so.
 fn chunk(input: &[u8], line: &mut [u8], out: &mut [u8], went: Went) -> Went {
     let mut n = went.line;
     let mut to = went.out;
-    let mut i: usize = 0;
-    while i < input.len() {
-        let b = input[i];
-        i = i + 1;
-        if b == b'\n' {
+    let mut from: usize = 0;
+    while from < input.len() {
+        let end = line_end(input, from);
+        n = put_text(
+            line,
+            n,
+            bytes_of(
+                input,
+                Span {
+                    from: from,
+                    to: end,
+                },
+            ),
+        );
+        if end < input.len() {
             to = ended(line, n, out, to);
             n = 0;
+            from = end + 1;
         } else {
-            n = put(line, n, b);
+            from = input.len();
         }
     }
     Went { line: n, out: to }

@@ -31,20 +31,25 @@ pendsBy con1 =
 abbrev pub halfAddr : Audio → ℕ
 halfAddr a = (a .adr + a .half * wordsOf a * 4) % 2 ^ 32
 
--- the block once its half has finished: "the next deadline is old plus period, so a backlog stays due"
-unfoldable pub finished : Audio → ℕ → Audio
-finished a hz =
+-- the block with another half playing: its deadline, the halves so far, which half, CON0, what pends
+abbrev pub playing : Audio → ℕ → ℕ → ℕ → ℕ → ℕ → Audio
+playing a next halves half con0 pend =
     record {
-      next = a .next + halfPeriod a hz;
-      halves = (a .halves + 1) % 2 ^ 64;
-      half = 1 - a .half;
-      con0 = a .con0;
+      next = next;
+      halves = halves;
+      half = half;
+      con0 = con0;
       con1 = a .con1;
       con3 = a .con3;
-      pend = bitOr (a .pend) (pendsBy (a .con1));
+      pend = pend;
       adr = a .adr;
       len = a .len;
     }
+
+-- the block once its half has finished: "the next deadline is old plus period, so a backlog stays due"
+unfoldable pub finished : Audio → ℕ → Audio
+finished a hz =
+    playing a (a .next + halfPeriod a hz) ((a .halves + 1) % 2 ^ 64) (1 - a .half) (a .con0) (bitOr (a .pend) (pendsBy (a .con1)))
 
 -- "One half a step": before the deadline nothing; at it one half is handed out
 unfoldable pub audioAt : Audio → ℕ → ℕ → Played
@@ -59,17 +64,8 @@ con0Read a = bitOr (bitAnd (a .con0) 0xffff7fff) (a .half * 2 ^ 15 % 2 ^ 32)
 -- 0x12e00 written: bit 11 starts the first half or stops; bits 0 to 14 are kept
 unfoldable pub con0Written : Audio → ℕ → ℕ → ℕ → Audio
 con0Written a v now hz =
-    record {
-      next = switchedOf (isSet (a .con0) 0x800) (isSet v 0x800) (a .next) (now + halfPeriod a hz);
-      halves = a .halves;
-      half = startedOf (isSet (a .con0) 0x800) (isSet v 0x800) (a .half) 0;
-      con0 = bitAnd v 0x7fff;
-      con1 = a .con1;
-      con3 = a .con3;
-      pend = a .pend;
-      adr = a .adr;
-      len = a .len;
-    }
+    playing a (switchedOf (isSet (a .con0) 0x800) (isSet v 0x800) (a .next) (now + halfPeriod a hz)) (a .halves)
+    (startedOf (isSet (a .con0) 0x800) (isSet v 0x800) (a .half) 0) (bitAnd v 0x7fff) (a .pend)
 
 -- 0x12e04, 0x12e08, 0x12e0c, 0x12e1c, 0x12e20: each reads as it is kept
 abbrev pub con1Read : Audio → ℕ

@@ -7,16 +7,16 @@ use borrow.Author.Tests.{ltb-false}
 use lib.Dec.{eqb, ltb}
 use lib.ListN.{length}
 use Rattle.base.specs.Moments.{clockMax}
-use Rattle.reads.proofs.Kept.{poll-kept}
+use Rattle.regs.proofs.ReadsKept.{poll-kept}
 use Rattle.regs.proofs.Kept.{write-kept}
-use Rattle.reads.specs.Reads.{pollsAt, polledOf}
+use Rattle.regs.specs.Reads.{pollsAt, polledOf}
 use Rattle.state.specs.State.{boardWhole}
 use Rattle.state.specs.Whole.{Whole}
 use Rattle.state.specs.With.{withChip}
 use Rattle.state.specs.declared.Board.{Board}
-use Rattle.guard.proofs.Kept.{kept, answer-kept}
-use Rattle.guard.proofs.Known.{no}
-use Rattle.guard.specs.Refusals.{sizeOf, banksRefused}
+use Rattle.board_guard.proofs.Kept.{kept}
+use Rattle.board_guard.proofs.Known.{no}
+use Rattle.board_guard.specs.Refusals.{sizeOf, banksRefused}
 use Rattle.board.specs.declared.Reading.{Reading}
 use Rattle.board.specs.declared.Written.{Written}
 use Rattle.board.specs.Calls.{readChip, readRefused, readCall, writeCall}

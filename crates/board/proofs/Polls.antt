@@ -9,14 +9,14 @@ use lib.ListN.{length}
 use Rattle.base.proofs.Flags.{and-left}
 use Rattle.base.specs.Bits.{isSet}
 use Rattle.base.specs.Moments.{clockMax}
-use Rattle.reads.specs.Reads.{readOf, t4Read, pollsAt, polledOf}
-use Rattle.reads.specs.declared.Value.the-variants.{Is}
+use Rattle.regs.specs.Reads.{readOf, t4Read, pollsAt, polledOf}
+use Rattle.regs.specs.declared.reads.Value.the-variants.{Is}
 use Rattle.state.specs.State.{boardWhole}
 use Rattle.state.specs.With.{withChip}
 use Rattle.state.specs.declared.Board.{Board}
 use Rattle.state.specs.declared.Chip.{Chip}
 use Rattle.timers.specs.Timer4.{t4Cnt}
-use Rattle.guard.specs.Refusals.{sizeOf, wholeRefused, banksRefused}
+use Rattle.board_guard.specs.Refusals.{sizeOf, wholeRefused, banksRefused}
 use Rattle.board.specs.Calls.{readRefused, readChip, noRead, countedOf, readCall}
 
 -- a poll is a read of TIMER4's count

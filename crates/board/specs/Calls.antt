@@ -5,16 +5,16 @@ use mathlib.Core.List.{List}
 use lib.Dec.{eqb, ltb}
 use lib.ListN.{length}
 use Rattle.base.specs.Moments.{clockMax}
-use Rattle.reads.specs.Reads.{readOf, pollsAt, polledOf}
+use Rattle.regs.specs.Reads.{readOf, pollsAt, polledOf}
 use Rattle.regs.specs.Writes.{handledAt, boardWritten, firstWritten, secondWritten}
-use Rattle.reads.specs.declared.Value.the-variants.{Is, None}
+use Rattle.regs.specs.declared.reads.Value.the-variants.{Is, None}
 use Rattle.state.specs.State.{boardWhole}
 use Rattle.state.specs.With.{withChip}
 use Rattle.state.specs.declared.Board.{Board}
 use Rattle.state.specs.declared.Chip.{Chip}
 use Rattle.timers.specs.Timer4.{t4Cnt}
 use Rattle.base.specs.Refusals.{SIZE, STATE, TIME}
-use Rattle.guard.specs.Refusals.{sizeOf, banksRefused}
+use Rattle.board_guard.specs.Refusals.{sizeOf, banksRefused}
 use Rattle.board.specs.declared.Reading.{Reading}
 use Rattle.board.specs.declared.Written.{Written}
 

@@ -1,5 +1,5 @@
 -- Making a board, an action by hand, a chip reset.
-use Prim.Native.Nat.{ℕ, _^_}
+use Prim.Native.Nat.{ℕ}
 use mathlib.Core.Bool.{cond, not}
 use mathlib.Core.List.{List}
 use lib.Dec.{eqb, leb, ltb}
@@ -11,15 +11,16 @@ use Rattle.state.specs.declared.Board.{Board}
 use Rattle.step.specs.Apply.{applyOf, applyIn}
 use Rattle.step.specs.Reset.{chipReset, zeroed}
 use Rattle.uart.specs.Uart.{queueBytes}
-use Rattle.guard.specs.Answers.{turnedOf}
+use Rattle.board_guard.specs.Answers.{turnedOf}
+use Rattle.base.specs.Limits.{rateMin, rateMax}
 use Rattle.base.specs.Refusals.{CLOCK, SIZE, STATE, COUNT, countMax}
-use Rattle.guard.specs.Refusals.{sizeOf, banksRefused}
-use Rattle.guard.specs.declared.Done.{Done}
+use Rattle.board_guard.specs.Refusals.{sizeOf, banksRefused}
+use Rattle.board_guard.specs.declared.Done.{Done}
 
 -- ---- "Making a board checks 1, then 2, zeroes both banks, starts with queue and script empty and leaves their memory untouched"
 
 unfoldable pub rateRefused : ℕ → ℕ
-rateRefused hz = cond (ltb hz 1_000_000) CLOCK (cond (ltb 800_000_000 hz) CLOCK 0)
+rateRefused hz = cond (ltb hz rateMin) CLOCK (cond (ltb rateMax hz) CLOCK 0)
 
 unfoldable pub newRefused : ℕ → ℕ → ℕ → ℕ → ℕ → ℕ
 newRefused hz queue script first second =

@@ -4,38 +4,36 @@ use base::COUNT;
 use base::COUNT_MAX;
 use base::SIZE;
 use base::STATE;
-use guard::Done;
-use guard::banks;
-use guard::broken;
-use guard::size;
-use guard::turned_away;
+use board_guard::Done;
+use board_guard::banks;
+use board_guard::broken;
+use board_guard::size;
+use board_guard::turned_away;
 use records::Action;
+use script::SCRIPT_LEN;
 use state::Board;
 use step::zero;
+use uart::QUEUE_LEN;
 ghost use mathlib.Core.Path.{_≡_};
 ghost use Prim.Native.Nat.{_≤_, _<_, _^_};
 ghost use lib.ListN.{length};
 ghost use Rattle.state.specs.State.{boardNew};
-ghost use Rattle.guard.specs.Answers.{turnedOf};
+ghost use Rattle.board_guard.specs.Answers.{turnedOf};
 ghost use Rattle.board.specs.Steps.{rateRefused, newRefused, newCall, newBank, applyCall, applyQueue, resetCall, resetFirst, resetSecond};
 
-const QUEUE_BYTES: usize = uart::QUEUE_BYTES as usize;
+const RATE_MIN: u64 = base::RATE_MIN as u64;
 
-const ENTRIES: usize = script::ENTRIES as usize;
-
-const LEAST_HZ: u64 = 1_000_000;
-
-const MOST_HZ: u64 = 800_000_000;
+const RATE_MAX: u64 = base::RATE_MAX as u64;
 
 // ---- making a board
 
 fn rate(hz: u64) -> u32
     ensures { λ r. ⌜ r ≡ rateRefused hz ⌝ }
 {
-    if hz < LEAST_HZ {
+    if hz < RATE_MIN {
         return CLOCK;
     }
-    if MOST_HZ < hz {
+    if RATE_MAX < hz {
         return CLOCK;
     }
     0
@@ -47,10 +45,10 @@ fn new_refused(hz: u64, queue: usize, script: usize, first: usize, second: usize
     if rate(hz) != 0 {
         return CLOCK;
     }
-    if queue != QUEUE_BYTES {
+    if queue != QUEUE_LEN {
         return SIZE;
     }
-    if script != ENTRIES {
+    if script != SCRIPT_LEN {
         return SIZE;
     }
     size(first, second)
@@ -87,7 +85,7 @@ pub fn apply(b: Board, action: Action, queue: &mut [u8]) -> Done
     ensures { λ r. ⌜ r ≡ applyCall b action (length (now (queue .entry))) ⌝ }
     ensures memory { λ _. ⌜ now (queue .exit) ≡ applyQueue b action (now (queue .entry)) ⌝ }
 {
-    if queue.len() != QUEUE_BYTES {
+    if queue.len() != QUEUE_LEN {
         return turned_away(b, SIZE);
     }
     if broken(b) {

@@ -1,8 +1,9 @@
 // Standard input, a line at a time.
-use asking::LINE;
+use line_ask::LINE;
 use text::Span;
 use text::bytes_of;
 use text::first;
+use text::line_end;
 use text::put_text;
 ghost use Prim.Native.Nat.{_<_};
 
@@ -82,18 +83,6 @@ fn taken(input: &[u8; BUFFER], line: &mut [u8; LINE], r: Reader) -> Reader {
         return went(r, end + 1, n, true);
     }
     went(r, end, n, r.whole)
-}
-
-// The place of the next line feed, or of the end.
-fn line_end(bytes: &[u8], at: usize) -> usize {
-    let mut i = at;
-    while i < bytes.len() {
-        if bytes[i] == b'\n' {
-            return i;
-        }
-        i = i + 1;
-    }
-    i
 }
 
 fn went(r: Reader, at: usize, len: usize, whole: bool) -> Reader {

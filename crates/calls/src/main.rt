@@ -33,15 +33,19 @@
 mod lines;
 mod written;
 
-use asking::LINE;
-use asking::asked;
-use boards::on_board;
+use board_guard::BANK_WORDS;
+use calls_board::on_board;
+use calls_port::Ports;
+use calls_port::on_port;
+use line_ask::LINE;
+use line_ask::asked;
 use lines::BUFFER;
 use lines::left;
 use lines::next;
 use p33::P33;
-use ports::Ports;
-use ports::on_port;
+use script::SCRIPT_LEN;
+use script::SCRIPT_WORDS;
+use uart::QUEUE_LEN;
 use written::flush;
 use written::put_line;
 
@@ -53,18 +57,12 @@ fn main() {
     let mut out = [0u8; BUFFER];
     let mut regs = [0u8; 2048];
     let mut aside = [0u8; 2048];
-    let mut queue = [0u8; 3125];
-    let mut script = [0u64; 512];
-    let mut icfg = [0u32; 32];
-    let mut icfg1 = [0u32; 32];
+    let mut queue = [0u8; QUEUE_LEN];
+    let mut script = [0u64; SCRIPT_WORDS];
+    let mut icfg = [0u32; BANK_WORDS];
+    let mut icfg1 = [0u32; BANK_WORDS];
     let mut lights = [0u64; 41];
-    let made = board::made(
-        RATE,
-        boards::QUEUE_BYTES,
-        boards::ENTRIES,
-        &mut icfg,
-        &mut icfg1,
-    );
+    let made = board::made(RATE, QUEUE_LEN, SCRIPT_LEN, &mut icfg, &mut icfg1);
     let mut b = made.board;
     let port = P33::new(&mut regs).port;
     let mut ports = Ports {

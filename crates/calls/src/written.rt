@@ -1,7 +1,7 @@
 // What is written: each line and its answer behind those that wait.
 use crate::lines::BUFFER;
-use asking::LINE;
-use telling::Answer;
+use line_answer::Answer;
+use line_ask::LINE;
 use text::first;
 
 // Those that wait are written out before there could be no room for this one.
@@ -14,7 +14,7 @@ pub fn put_line(
     lights: &[u64; 41],
 ) -> usize {
     let start = flushed(out, to);
-    telling::put_line(out, start, first(room, n), a, lights)
+    line_answer::put_line(out, start, first(room, n), a, lights)
 }
 
 fn flushed(out: &[u8; BUFFER], to: usize) -> usize {

@@ -5,11 +5,11 @@ use mathlib.Core.List.{List}
 use lib.Dec.{eqb, ltb}
 use lib.ListN.{length}
 use Rattle.base.specs.Refusals.{SIZE, STATE}
-use Rattle.guard.specs.Answers.{turnedOf}
-use Rattle.guard.specs.declared.Done.{Done}
-use Rattle.edge.specs.Edge.{saidOf}
-use Rattle.edge.specs.Ports.{ofRegister}
-use Rattle.edge.specs.declared.Said.{Said}
+use Rattle.board_guard.specs.Answers.{turnedOf}
+use Rattle.board_guard.specs.declared.Done.{Done}
+use Rattle.capi_answers.specs.Edge.{saidOf}
+use Rattle.capi_answers.specs.Ports.{ofRegister}
+use Rattle.capi_answers.specs.declared.Said.{Said}
 use Rattle.p33.specs.P33.{memoryBytes, regOf}
 use Rattle.state.specs.declared.Board.{Board}
 

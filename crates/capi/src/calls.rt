@@ -6,39 +6,29 @@ use board::Lit;
 use board::Number;
 use board::Ticked;
 use board::Written;
-use edge::Advanced;
-use edge::Chosen;
-use edge::Reading;
-use edge::Said;
-use edge::advance;
-use edge::of_chosen;
-use edge::of_id;
-use edge::of_pushing;
-use edge::of_reading;
-use guard::turned_away;
+use board_guard::turned_away;
+use capi_answers::Advanced;
+use capi_answers::Chosen;
+use capi_answers::Reading;
+use capi_answers::Said;
+use capi_answers::advance;
+use capi_answers::of_chosen;
+use capi_answers::of_id;
+use capi_answers::of_reading;
 use script::action_of;
+use script::places;
 use state::Board;
 ghost use mathlib.Core.Path.{_≡_};
 ghost use lib.ListN.{length};
-ghost use Rattle.controls.specs.Calls.{tickCall, roomCall, nextDueCall, idleCall, anyCall, enabledCall, choiceCall, ledCall, spi1Call, spi2Call, spi1OffCall, shiftCall, msCall, cyclesCall, queuedCall, droppedCall, ticksCall, skipCall, isrCall, capCall, excCall, spi2FlagCall, usbCall, wdtCall};
+ghost use Rattle.board_runner.specs.Calls.{tickCall, roomCall, nextDueCall, idleCall, anyCall, enabledCall, choiceCall, ledCall, spi1Call, spi2Call, spi1OffCall, shiftCall, msCall, cyclesCall, queuedCall, droppedCall, ticksCall, skipCall, isrCall, capCall, excCall, spi2FlagCall, usbCall, wdtCall};
 ghost use Rattle.board.specs.Calls.{readCall, writeCall, writeFirst, writeSecond};
 ghost use Rattle.board.specs.Steps.{newRefused, newCall, newBank, applyCall, applyQueue, resetCall, resetFirst, resetSecond};
 ghost use Rattle.names.specs.Names.{keyIdOf, encIdOf};
-ghost use Rattle.script.specs.Words.{wordOf, actionOf, wordsAt};
+ghost use Rattle.script.specs.Words.{wordOf, actionOf, wordsAt, placesIn};
 ghost use Rattle.step.specs.Step.{ran, stepOf, pushedOf};
-ghost use Rattle.words.specs.Words.{placesOf, placesIn, spotIn, storedWords};
-ghost use Rattle.edge.specs.Edge.{ofPushing, ofReading, ofStepped, ofChosen, ofId};
+ghost use Rattle.board_words.specs.Words.{spotIn, storedWords};
+ghost use Rattle.capi_answers.specs.Edge.{ofReading, ofStepped, ofChosen, ofId};
 ghost use Rattle.capi.specs.Flags.{flagged};
-
-// How many entries so many words are.
-fn places(n: usize) -> usize
-    ensures { λ r. ⌜ r ≡ placesOf n ⌝ }
-{
-    if n % 2 == 0 {
-        return n / 2;
-    }
-    0
-}
 
 // ---- making a board, steps, actions, reset
 
@@ -78,11 +68,11 @@ pub extern "C" fn fm1_advance(
 // An action for the step that reaches `time`. SIZE, STATE, FULL.
 #[no_mangle]
 pub extern "C" fn fm1_push(b: Board, script: &mut [u64], time: u64, action: u64) -> Done
-    ensures { λ r. ⌜ (r ≡ ofPushing (pushedOf (spotIn b (now (script .entry)) time)))
+    ensures { λ r. ⌜ (r ≡ pushedOf (spotIn b (now (script .entry)) time))
         × (now (script .exit) ≡ storedWords (spotIn b (now (script .entry)) time) (now (script .entry)) time (wordOf (actionOf action))) ⌝ }
 {
     let a = action_of(action);
-    of_pushing(words::push(b, script, time, a))
+    board_words::push(b, script, time, a)
 }
 
 // An action now. SIZE, STATE, COUNT.

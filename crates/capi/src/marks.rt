@@ -1,8 +1,8 @@
-// The layout, told by the library itself: crate `edge` has the record.
-use edge::marks::marked;
+// The layout, told by the library itself: crate `capi_answers` has the record.
+use capi_answers::marks::marked;
 use state::Board;
 ghost use mathlib.Core.Path.{_≡_};
-ghost use Rattle.edge.specs.Marks.{marks};
+ghost use Rattle.capi_answers.specs.Marks.{marks};
 
 // A record that marks its fields. It is not whole.
 #[no_mangle]

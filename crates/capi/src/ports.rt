@@ -2,15 +2,15 @@
 use base::SIZE;
 use base::STATE;
 use base::when;
-use edge::Port;
-use edge::PortAnswered;
-use edge::Said;
-use edge::ports::of_compared;
-use edge::ports::of_port_done;
-use edge::ports::of_register;
-use edge::ports::of_taken;
-use edge::ports::port_in;
-use edge::told;
+use capi_answers::Port;
+use capi_answers::PortAnswered;
+use capi_answers::Said;
+use capi_answers::ports::of_compared;
+use capi_answers::ports::of_port_done;
+use capi_answers::ports::of_register;
+use capi_answers::ports::of_taken;
+use capi_answers::ports::port_in;
+use capi_answers::told;
 use p33::P33;
 use p33::REGS;
 ghost use mathlib.Core.Path.{_≡_};
@@ -29,7 +29,7 @@ ghost use Rattle.p33.specs.P33.{
   writeIn,
 };
 ghost use Rattle.p33.specs.Sameness.{sameSnap, sameOf};
-ghost use Rattle.edge.specs.Ports.{portIn, ofPortDone, ofTaken, ofCompared};
+ghost use Rattle.capi_answers.specs.Ports.{portIn, ofPortDone, ofTaken, ofCompared};
 ghost use Rattle.capi.specs.Flags.{registerOf};
 
 // A port at power-on; its memory is zeroed. SIZE.

@@ -1,24 +1,26 @@
 // Document 01's driver: records from standard input, carried out on a new 240 MHz board, a line each on standard output. It ends with its input, or with `X` at a record that is broken or cut
-// off. Input streams through one buffer, so that its length does not matter, and lines wait in another. What a record does is `carry`, its line is `lines`; here they are put together. The loop
-// knows its board whole (`BenchOk`), so that `known` carries records out and tests nothing. The chip is a variable and the panel's arrays stay in theirs, so that no record copies the board.
+// off. Input streams through one buffer, so that its length does not matter, and lines wait in another. What a record does is `driver_carry`, its line is `driver_lines`; here they are put together. The loop
+// knows its board whole (`BenchOk`), so that `driver_known` carries records out and tests nothing. The chip is a variable and the panel's arrays stay in theirs, so that no record copies the board.
 mod stream;
 
-use carry::Answer;
-use known::carried;
-use lines::put_line;
+use board_guard::BANK_WORDS;
+use driver_carry::Answer;
+use driver_known::carried;
+use driver_lines::put_line;
+use script::SCRIPT_LEN;
+use script::SCRIPT_WORDS;
+use step::OUT_BYTES;
 use stream::Stream;
 use stream::fed;
 use stream::find;
 use stream::passed;
 use text::first;
+use uart::QUEUE_LEN;
 ghost use mathlib.Core.Path.{_≡_};
 ghost use lib.ListN.{length};
+ghost use Rattle.uart.specs.Uart.{queueBytes};
 
 const RATE: u64 = 240_000_000;
-
-const QUEUE_BYTES: usize = uart::QUEUE_BYTES as usize;
-
-const ENTRIES: usize = script::ENTRIES as usize;
 
 // Lines that wait are written out while there is still room for one more.
 const FULL: usize = 65536 - 128;
@@ -26,11 +28,11 @@ const FULL: usize = 65536 - 128;
 fn main() {
     let mut input = [0u8; 65536];
     let mut out = [0u8; 65536];
-    let mut queue = [0u8; 3125];
-    let mut script = [0u64; 512];
-    let mut icfg = [0u32; 32];
-    let mut icfg1 = [0u32; 32];
-    let mut acts = [0u8; 4352];
+    let mut queue = [0u8; QUEUE_LEN];
+    let mut script = [0u64; SCRIPT_WORDS];
+    let mut icfg = [0u32; BANK_WORDS];
+    let mut icfg1 = [0u32; BANK_WORDS];
+    let mut acts = [0u8; OUT_BYTES];
     run(
         &mut input,
         &mut out,
@@ -52,9 +54,9 @@ fn run(
     icfg1: &mut [u32],
     acts: &mut [u8],
 )
-    requires { ⌜ (length (now queue) ≡ 3125) × (length (now script) ≡ 512) × (length (now icfg) ≡ 32) × (length (now icfg1) ≡ 32) × (length (now acts) ≡ 4352) ⌝ }
+    requires { ⌜ (length (now queue) ≡ queueBytes) × (length (now script) ≡ 512) × (length (now icfg) ≡ 32) × (length (now icfg1) ≡ 32) × (length (now acts) ≡ 4352) ⌝ }
 {
-    let b = board::made(RATE, QUEUE_BYTES, ENTRIES, icfg, icfg1).board;
+    let b = board::made(RATE, QUEUE_LEN, SCRIPT_LEN, icfg, icfg1).board;
     let mut c = b.chip;
     let mut acc = b.panel.acc;
     let mut t0 = b.panel.ramps.t0;

@@ -5,6 +5,7 @@ use mathlib.Core.List.{List}
 use lib.Dec.{eqb}
 use lib.ListN.{length, getD}
 use Rattle.base.specs.AllTo.{allTo}
+use Rattle.base.specs.Refusals.{SIZE}
 use Rattle.p33.specs.declared.P33.{P33}
 use Rattle.p33.specs.declared.Snap.{Snap}
 use Rattle.p33.specs.declared.Compared.{Compared}
@@ -41,7 +42,7 @@ bothSizes x y = eqb (length x) memoryBytes && eqb (length y) memoryBytes
 -- `same`: both lengths are tested. That the flag is true exactly where the two cores are equal is `same-exact` (proofs/Sameness)
 unfoldable pub sameOf : P33 → List ℕ → P33 → List ℕ → Compared
 sameOf a x b y =
-    cond (bothSizes x y) (record { refused = 0; same = sameRecord a b && sameRegs x y }) (record { refused = 2; same = false })
+    cond (bothSizes x y) (record { refused = 0; same = sameRecord a b && sameRegs x y }) (record { refused = SIZE; same = false })
 
 -- equality of two snaps
 abbrev pub sameSnap : Snap → Snap → Bool

@@ -10,8 +10,8 @@ use lib.ListN.{length, getD}
 use Rattle.base.proofs.Cases.{lt-or-ge}
 use Rattle.base.specs.Moments.{clockMax, never}
 use Rattle.base.specs.Ring.{ring}
-use Rattle.midi.proofs.Does.{Does, nothing, serves-none, serves-quiet, serves-byte, takes, drops}
-use Rattle.midi.specs.Model.{Midi, midi, serve, offer, Step, lost, given, dueAfter, dueWith}
+use Rattle.midi_laws.proofs.Does.{Does, nothing, serves-none, serves-quiet, serves-byte, takes, drops}
+use Rattle.midi_laws.specs.Model.{Midi, midi, serve, offer, Step, lost, given, dueAfter, dueWith}
 use Rattle.records.specs.declared.Action.{Action}
 use Rattle.records.specs.declared.Action.the-variants.{Key, Enc, Adc, Midi as MidiByte, KeyVel, Pressure}
 use Rattle.state.specs.Whole.{Sound}

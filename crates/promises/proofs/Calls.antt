@@ -10,20 +10,20 @@ use lib.Dec.{eqb, ltb}
 use lib.ListN.{length}
 use Rattle.base.specs.Moments.{never}
 use Rattle.base.specs.Ring.{ring}
-use Rattle.guard.specs.Answers.{answered}
-use Rattle.guard.specs.Refusals.{wholeRefused, banksRefused}
-use Rattle.controls.specs.Calls.{tickRefused, tickCall, idleRefused, idleCall, ledCall, spi1Refused, spi1Call, spi2Refused, spi2Call, spi1OffCall, shiftCall, ticksCall, skipCall, isrCall, capCall, excCall, spi2FlagCall, usbRefused, usbCall, wdtRefused, wdtCall}
+use Rattle.board_guard.specs.Answers.{answered}
+use Rattle.board_guard.specs.Refusals.{wholeRefused, banksRefused}
+use Rattle.board_runner.specs.Calls.{tickRefused, tickCall, idleRefused, idleCall, ledCall, spi1Refused, spi1Call, spi2Refused, spi2Call, spi1OffCall, shiftCall, ticksCall, skipCall, isrCall, capCall, excCall, spi2FlagCall, usbRefused, usbCall, wdtRefused, wdtCall}
 use Rattle.board.specs.Calls.{readChip, readRefused, readCall, writeCall}
 use Rattle.board.specs.Steps.{resetCall}
-use Rattle.guard.specs.declared.Done.{Done}
-use Rattle.controls.specs.declared.Lit.{Lit}
+use Rattle.board_guard.specs.declared.Done.{Done}
+use Rattle.board_runner.specs.declared.Lit.{Lit}
 use Rattle.board.specs.declared.Reading.{Reading}
-use Rattle.controls.specs.declared.Ticked.{Ticked}
+use Rattle.board_runner.specs.declared.Ticked.{Ticked}
 use Rattle.board.specs.declared.Written.{Written}
 use Rattle.irq.specs.Sources.{anyPending}
-use Rattle.midi.proofs.Does.{Does, nothing, moves}
-use Rattle.midi.specs.Model.{Midi, midi, move}
-use Rattle.reads.specs.Reads.{pollsAt, pollAt, polledOf}
+use Rattle.midi_laws.proofs.Does.{Does, nothing, moves}
+use Rattle.midi_laws.specs.Model.{Midi, midi, move}
+use Rattle.regs.specs.Reads.{pollsAt, pollAt, polledOf}
 use Rattle.regs.specs.Writes.{uartWritten, chipWritten, adcWritten, boardWritten}
 use Rattle.runner.specs.Runner.{idleEnd, jumpTo, idledOf, spi1Of, spi1OffOf, spi2Of, shiftedOf, lightOf, withSkip, withIsr, withExc, withSpi2}
 use Rattle.script.specs.declared.Front.{Front}

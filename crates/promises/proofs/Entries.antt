@@ -5,8 +5,8 @@ use mathlib.Core.List.{List, [], _∷_, _++_}
 use Prim.Native.Nat.{ℕ, zero, suc, _+_, _%_}
 use native.Mathlib.Omega.{arith}
 use lib.ListN.{length}
-use Rattle.midi.proofs.Does.{Does, nothing, andThen}
-use Rattle.midi.specs.Model.{Act}
+use Rattle.midi_laws.proofs.Does.{Does, nothing, andThen}
+use Rattle.midi_laws.specs.Model.{Act}
 use Rattle.records.specs.declared.Action.{Action}
 use Rattle.records.specs.declared.Action.the-variants.{Key, Enc, Adc, Midi as MidiByte, KeyVel, Pressure}
 use Rattle.script.specs.Script.{entries, nextPlace}
@@ -29,7 +29,7 @@ use Rattle.promises.proofs.Bytes.{apply-does}
 pub offers-append : (t : ℕ) (a l : List ℕ) → offers t (a ++ l) ≡ offers t a ++ offers t l
 unfolding offers
 offers-append t [] l = refl
-offers-append t (b ∷ a) l = ap (λ (r : List Act). Rattle.midi.specs.Model.offer t b ∷ r) (offers-append t a l)
+offers-append t (b ∷ a) l = ap (λ (r : List Act). Rattle.midi_laws.specs.Model.offer t b ∷ r) (offers-append t a l)
 
 -- an action leaves the rate
 pub applied-rate : (b : Board) (a : Action) → hzOf (applyOf b a .chip) ≡ hzOf (b .chip)

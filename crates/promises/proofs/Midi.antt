@@ -8,13 +8,13 @@ use borrow.Author.Tests.{eqb-true}
 use lib.Dec.{eqb}
 use lib.ListN.{length}
 use Rattle.base.specs.Ring.{ring}
-use Rattle.guard.proofs.Known.{no}
-use Rattle.guard.specs.Answers.{turnedOf}
+use Rattle.board_guard.proofs.Known.{no}
+use Rattle.board_guard.specs.Answers.{turnedOf}
 use Rattle.board.specs.Steps.{newCall, applyRefused, applyCall, applyQueue}
-use Rattle.midi.proofs.Does.{Does, nothing, demand, all-each, each-then}
-use Rattle.midi.specs.Laws.{offered, Each, Steady}
-use Rattle.midi.specs.Machine.{final, gather}
-use Rattle.midi.specs.Model.{midi, never, Act, move, serve, offer}
+use Rattle.midi_laws.proofs.Does.{Does, nothing, demand, all-each, each-then}
+use Rattle.midi_laws.specs.Laws.{offered, Each, Steady}
+use Rattle.midi_laws.specs.Machine.{final, gather}
+use Rattle.midi_laws.specs.Model.{midi, never, Act, move, serve, offer}
 use Rattle.records.specs.declared.Action.{Action}
 use Rattle.script.specs.Entries.{shown}
 use Rattle.state.specs.State.{chipNew}

@@ -10,9 +10,9 @@ use borrow.Author.Tests.{eqb-true, eqb-false, eq-eqb, ne-eqb, le-ltb}
 use lib.Dec.{eqb}
 use lib.ListN.{length}
 use Rattle.base.proofs.Cases.{lt-or-ge}
-use Rattle.midi.proofs.Does.{Does, nothing, andThen, moves, serves-quiet}
-use Rattle.midi.specs.Laws.{offered, Each}
-use Rattle.midi.specs.Model.{move, serve}
+use Rattle.midi_laws.proofs.Does.{Does, nothing, andThen, moves, serves-quiet}
+use Rattle.midi_laws.specs.Laws.{offered, Each}
+use Rattle.midi_laws.specs.Model.{move, serve}
 use Rattle.script.specs.Entries.{shown}
 use Rattle.script.specs.declared.Entry.{Entry}
 use Rattle.script.specs.declared.Front.{Front}

@@ -1,5 +1,5 @@
 -- Demand 3 on the board: "Over any run of calls from a new board, MIDI bytes leave in the first accepted step at or after their due time, once, in order, within 01's bounds, and none is
--- unaccounted for." The laws are those of crate `midi`; here is what they are laws of.
+-- unaccounted for." The laws are those of crate `midi_laws`; here is what they are laws of.
 use mathlib.Core.Bool.{cond}
 use mathlib.Core.List.{List, [], _∷_, _++_}
 use mathlib.Core.Path.{_≡_}
@@ -7,9 +7,9 @@ use Prim.Native.Nat.{ℕ, zero, suc, _+_, _*_, _-_, _%_, _≤_, _<_}
 use lib.Dec.{eqb}
 use lib.ListN.{length}
 use Rattle.board.specs.Steps.{applyCall}
-use Rattle.midi.specs.Laws.{inAt, outAt, handed, offered, Prompt, Bound, MidiLaws}
-use Rattle.midi.specs.Machine.{final, gather}
-use Rattle.midi.specs.Model.{Midi, midi, Act, move, serve, offer, Step, Hist, run}
+use Rattle.midi_laws.specs.Laws.{inAt, outAt, handed, offered, Prompt, Bound, MidiLaws}
+use Rattle.midi_laws.specs.Machine.{final, gather}
+use Rattle.midi_laws.specs.Model.{Midi, midi, Act, move, serve, offer, Step, Hist, run}
 use Rattle.records.specs.declared.Action.{Action}
 use Rattle.records.specs.declared.Action.the-variants.{Key, Enc, Adc, Midi as MidiByte, KeyVel, Pressure}
 use Rattle.script.specs.Script.{entries}
@@ -150,7 +150,7 @@ pub record Promise (hz : ℕ) (s : Held) (l : List Call) : Type 0 where
   pub ends : part (final exec s l) ≡ history s l .end
   pub steps : gather exec stepsBy s l ≡ history s l .steps
   pub offer : gather exec offeredBy s l ≡ offered (gather exec actsOf s l)
-  -- D1, D2 and the rest, as crate `midi` has them
+  -- D1, D2 and the rest, as crate `midi_laws` has them
   pub laws : MidiLaws (gather exec actsOf s l) (history s l)
   -- D3: "leave − entry is at least k byte times and at most (k+1)·(byte time + D), k the bytes ahead at entry"
   pub least : (n : ℕ) → n < length (history s l .outs)

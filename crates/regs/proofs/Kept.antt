@@ -42,7 +42,7 @@ use Rattle.state.specs.Whole.{ChipOk, Whole}
 use Rattle.state.specs.With.{withAdc, withChip, dueAt}
 use Rattle.state.specs.declared.Board.{Board}
 use Rattle.state.specs.declared.Chip.{Chip}
-use Rattle.reads.proofs.Kept.{unless-most}
+use Rattle.regs.proofs.ReadsKept.{unless-most}
 use Rattle.regs.specs.Writes.{timedAt, t4Written, t5Written, tmrWritten, tmrsWritten, audioWritten, tickWritten, uartWritten, pinsWritten, timesWritten, chipWritten, adcWritten, boardWritten}
 
 -- what holds in both cases holds in either

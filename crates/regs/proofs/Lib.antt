@@ -1,2 +1,4 @@
+pub mod ReadsKept
+pub mod Registers
 pub mod Kept
 pub mod Pages

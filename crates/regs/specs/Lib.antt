@@ -1,1 +1,3 @@
+pub mod Reads
+pub mod Registers
 pub mod Writes

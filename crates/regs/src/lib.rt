@@ -1,5 +1,6 @@
-// The registers of the FM-1, inner: a caller that knows the record whole reads and writes here, without tests. Addresses are the source's. What a read answers is crate `reads`, whose items are
+// The registers of the FM-1, inner: a caller that knows the record whole reads and writes here, without tests. Addresses are the source's. What a read answers is module `reads`, whose items are
 // handed on; a write goes to the chip, to one of the banks, and, for the ports' words that drive LEDs, to the LEDs' times.
+mod reads;
 mod writes;
 
 pub use reads::Value;

@@ -7,6 +7,7 @@ use native.Mathlib.Nat.{le-refl, le-trans}
 use native.Mathlib.Omega.{arith}
 use borrow.Author.Tests.{ltb-true}
 use lib.Dec.{eqb, ltb}
+use Rattle.base.specs.Limits.{spiBytesMax, spiBaudMax}
 use Rattle.base.specs.Bits.{unlessOf}
 use Rattle.base.specs.Moments.{clockMax, never, Deadline}
 use Rattle.irq.specs.Sources.{anyPending}
@@ -19,10 +20,10 @@ use Rattle.state.proofs.Kept.{put-spi, put-pins, put-host, put-latch, put-clock
 use Rattle.state.specs.State.{timersNext, wiresNext, hostNext, frontNext, nextEvent, pendingOf}
 use Rattle.uart.specs.Uart.{uartNext}
 use Rattle.state.specs.Whole.{ChipOk, Whole}
-use Rattle.state.specs.With.{withClock, withSpi, clockAt, dueAt, dueNow, withChip}
+use Rattle.state.specs.With.{withClock, withSpi, clockAt, setClock, dueAt, dueNow, withChip}
 use Rattle.state.specs.declared.Board.{Board}
 use Rattle.state.specs.declared.Chip.{Chip}
-use Rattle.runner.specs.Runner.{tickedOf, idleEnd, jumpTo, idledOf, spi1Of, spi1OffOf, spi2Of, shiftedOf, lightOf, flagOf, setClock, withTicks, withSkip, withIsr, withCap, withExc, withSpi2, withUsb, withWdt}
+use Rattle.runner.specs.Runner.{tickedOf, idleEnd, jumpTo, idledOf, spi1Of, spi1OffOf, spi2Of, shiftedOf, lightOf, flagOf, withTicks, withSkip, withIsr, withCap, withExc, withSpi2, withUsb, withWdt}
 
 pub over : (a b : ℕ) → max a b - b ≡ a - b
 over a b = omega arith
@@ -91,7 +92,7 @@ module _ (b : Board) (w : Whole b) where
 
   -- ---- SPI and the shift register
 
-  module _ (bytes baud : ℕ) (irq : Bool) (f : bytes ≤ 65536) (g : baud ≤ 16383) where
+  module _ (bytes baud : ℕ) (irq : Bool) (f : bytes ≤ spiBytesMax) (g : baud ≤ spiBaudMax) where
     abbrev due : ℕ
     due = unlessOf irq (c .clock .«next_due»)
 

@@ -5,18 +5,18 @@ use lib.Dec.{eqb, leb, ltb}
 use lib.ListN.{replicate}
 use Rattle.base.specs.Bits.{unlessOf}
 use Rattle.base.specs.Moments.{never}
+use Rattle.irq.specs.Latch.{withException}
 use Rattle.irq.specs.Sources.{anyPending}
 use Rattle.panel.specs.Led.{takenOf}
 use Rattle.panel.specs.Map.{fm1Map}
 use Rattle.panel.specs.Pins.{byteShifted}
 use Rattle.panel.specs.declared.led.Taken.{Taken}
-use Rattle.spi.specs.Spi.{spi1Started, spi1Off, spi2Started}
+use Rattle.spi.specs.Spi.{spi1Started, spi1Off, spi2Started, spi2With}
 use Rattle.times.specs.Clocks.{msOfCycles, cyclesOfMs}
 use Rattle.state.specs.State.{nextEvent, pendingOf}
-use Rattle.state.specs.With.{withClock, withSpi, withHost, withPins, withLatch, clockAt, movedTo, dueAt, dueNow}
+use Rattle.state.specs.With.{withClock, withSpi, withHost, withPins, withLatch, clockAt, setClock, withFrames, withWatchdog, movedTo, dueAt, dueNow}
 use Rattle.state.specs.declared.Board.{Board}
 use Rattle.state.specs.declared.Chip.{Chip}
-use Rattle.state.specs.declared.Clock.{Clock}
 use Rattle.runner.specs.declared.Light.{Light}
 
 -- ---- ticks
@@ -101,19 +101,6 @@ lightOf b = record {
 abbrev pub flagOf : Bool → ℕ
 flagOf on = cond on 1 0
 
--- the clock with other settings
-abbrev pub setClock : Clock → ℕ → ℕ → ℕ → ℕ → Clock
-setClock k ticks cap isr skip = record {
-  cycles = k .cycles;
-  «next_due» = k .«next_due»;
-  «cycle_ticks» = ticks;
-  «room_cap» = cap;
-  skipped = k .skipped;
-  «in_isr» = isr;
-  hz = k .hz;
-  «skip_idle» = skip;
-}
-
 abbrev pub withTicks : Chip → ℕ → Chip
 withTicks c ticks = withClock c (setClock (c .clock) ticks (c .clock .«room_cap») (c .clock .«in_isr») (c .clock .«skip_idle»))
 
@@ -127,22 +114,13 @@ abbrev pub withCap : Chip → ℕ → Chip
 withCap c cap = withClock c (setClock (c .clock) (c .clock .«cycle_ticks») cap (c .clock .«in_isr») (c .clock .«skip_idle»))
 
 unfoldable pub withExc : Chip → Bool → Chip
-withExc c on = withLatch c (record { ilat = c .latch .ilat; «exc_pending» = flagOf on })
+withExc c on = withLatch c (withException (c .latch) (flagOf on))
 
 unfoldable pub withSpi2 : Chip → Bool → Chip
-withSpi2 c on =
-    withSpi c
-    (record {
-      «spi1_done_at» = c .spi .«spi1_done_at»;
-      «spi1_irq_at» = c .spi .«spi1_irq_at»;
-      «spi1_wire» = c .spi .«spi1_wire»;
-      «spi2_next» = c .spi .«spi2_next»;
-      «spi1_pending» = c .spi .«spi1_pending»;
-      «spi2_pending» = flagOf on;
-    })
+withSpi2 c on = withSpi c (spi2With (c .spi) (c .spi .«spi2_next») (flagOf on))
 
 abbrev pub withUsb : Chip → ℕ → ℕ → Chip
-withUsb c at period = withHost (dueNow c) (record { «usb_next» = at; «usb_period» = period; «wdt_at» = c .host .«wdt_at» })
+withUsb c at period = withHost (dueNow c) (withFrames (c .host) at period)
 
 abbrev pub withWdt : Chip → ℕ → Chip
-withWdt c at = withHost (dueNow c) (record { «usb_next» = c .host .«usb_next»; «usb_period» = c .host .«usb_period»; «wdt_at» = at })
+withWdt c at = withHost (dueNow c) (withWatchdog (c .host) at)

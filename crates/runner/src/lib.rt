@@ -16,6 +16,7 @@ use times::ms_of_cycles;
 ghost use mathlib.Core.Path.{_≡_};
 ghost use Prim.Native.Nat.{_≤_, _<_, _^_};
 ghost use lib.ListN.{length};
+ghost use Rattle.base.specs.Limits.{rateMax, spiBytesMax, spiBaudMax, msMax};
 ghost use Rattle.base.specs.Moments.{clockMax};
 ghost use Rattle.irq.specs.Banks.{bankWords};
 ghost use Rattle.irq.specs.Choice.{choiceOf};
@@ -149,7 +150,7 @@ pub fn pending_irq_for<'a>(c: Chip, core: u32, icfg: &'a [u32], icfg1: &'a [u32]
 
 // A transfer of SPI1; with its interrupt on it is timed.
 pub fn spi1_start(mut c: Chip, bytes: u32, baud: u32, irq: bool) -> Chip
-    requires { ⌜ (bytes ≤ 65536) × (baud ≤ 16383) × (c .clock .cycles ≤ clockMax) × (c .spi .«spi1_wire» < 2 ^ 62) ⌝ }
+    requires { ⌜ (bytes ≤ spiBytesMax) × (baud ≤ spiBaudMax) × (c .clock .cycles ≤ clockMax) × (c .spi .«spi1_wire» < 2 ^ 62) ⌝ }
     ensures { λ r. ⌜ r ≡ spi1Of c bytes baud irq ⌝ }
 {
     let s = c.spi
@@ -169,7 +170,7 @@ pub fn spi1_irq_off(mut c: Chip) -> Chip
 }
 
 pub fn spi2_start(mut c: Chip, bytes: u32, baud: u32, irq: bool) -> Chip
-    requires { ⌜ (bytes ≤ 65536) × (baud ≤ 16383) × (c .clock .cycles ≤ clockMax) ⌝ }
+    requires { ⌜ (bytes ≤ spiBytesMax) × (baud ≤ spiBaudMax) × (c .clock .cycles ≤ clockMax) ⌝ }
     ensures { λ r. ⌜ r ≡ spi2Of c bytes baud irq ⌝ }
 {
     let s = c.spi
@@ -198,7 +199,7 @@ pub fn ms(c: Chip) -> u64
 }
 
 pub fn cycle_of_ms(c: Chip, ms: u64) -> u64
-    requires { ⌜ (ms ≤ 2 ^ 34) × (c .clock .hz ≤ 800_000_000) ⌝ }
+    requires { ⌜ (ms ≤ msMax) × (c .clock .hz ≤ rateMax) ⌝ }
     ensures { λ r. ⌜ r ≡ cyclesOf c ms ⌝ }
 {
     let t = cycles_of_ms(ms, c.clock.hz);

@@ -3,7 +3,7 @@ use Prim.Native.Nat.{ℕ, _+_, _*_, _/_, _%_, _^_}
 use mathlib.Core.Bool.{cond}
 use mathlib.Core.List.{List}
 use lib.Dec.{eqb}
-use lib.ListN.{getD}
+use lib.ListN.{length, getD}
 use Rattle.records.specs.Layout.{flagOf}
 use Rattle.records.specs.declared.Action.{Action}
 use Rattle.records.specs.declared.Action.the-variants.{Key, Enc, Adc, Midi, KeyVel, Pressure}
@@ -45,3 +45,10 @@ entryOf at w = record { at = at; action = actionOf w }
 -- the words as a function from places
 abbrev pub wordsAt : List ℕ → ℕ → Entry
 wordsAt ws i = entryOf (getD ws (2 * i) 0) (getD ws (2 * i + 1) 0)
+
+-- how many entries so many words are: an odd number of words is no script
+abbrev pub placesOf : ℕ → ℕ
+placesOf n = cond (eqb (n % 2) 0) (n / 2) 0
+
+abbrev pub placesIn : List ℕ → ℕ
+placesIn ws = placesOf (length ws)

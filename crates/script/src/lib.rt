@@ -39,7 +39,7 @@ ghost use Rattle.script.specs.Entries.{
   takeAt,
   takeOf,
 };
-ghost use Rattle.script.specs.Words.{packed, wordOf, actionOf, entryOf};
+ghost use Rattle.script.specs.Words.{packed, wordOf, actionOf, entryOf, placesOf};
 
 #[repr(C)]
 pub struct Script {
@@ -82,6 +82,11 @@ pub struct Took {
 }
 
 pub const ENTRIES: u32 = 256;
+
+// The same as a length, and as plain words, two an entry.
+pub const SCRIPT_LEN: usize = ENTRIES as usize;
+
+pub const SCRIPT_WORDS: usize = 2 * SCRIPT_LEN;
 
 impl Script {
     pub fn new() -> Self
@@ -403,4 +408,14 @@ pub fn entry_of(at: u64, w: u64) -> Entry
 {
     let a = action_of(w);
     Entry { at: at, action: a }
+}
+
+// How many entries so many words are. An odd number of words is no script.
+pub fn places(n: usize) -> usize
+    ensures { λ r. ⌜ r ≡ placesOf n ⌝ }
+{
+    if n % 2 == 0 {
+        return n / 2;
+    }
+    0
 }

@@ -5,6 +5,7 @@ use mathlib.Core.Bool.{Bool, true, false, cond}
 use mathlib.Core.Logic.{⊎-elim, inl, inr}
 use native.Mathlib.Omega.{arith}
 use borrow.Author.Tests.{lt-ltb, le-ltb}
+use Rattle.base.specs.Limits.{spiBytesMax, spiBaudMax}
 use Rattle.base.proofs.Cases.{lt-or-ge}
 use Rattle.base.specs.Moments.{clockMax, Deadline}
 use Rattle.times.specs.Clocks.{spi1Cycles, spi2Cycles}
@@ -48,7 +49,7 @@ set-or-kept : (irq : Bool) (now cycles old : ℕ) → now ≤ clockMax → cycle
 set-or-kept true now cycles old h g d = inl (omega arith)
 set-or-kept false now cycles old h g d = d
 
-module _ (s : Spi) (bytes baud : ℕ) (irq : Bool) (now hz : ℕ) (w : SpiOk s) (b : bytes ≤ 65536) (d : baud ≤ 16383) (c : now ≤ clockMax) (g : hz < 2 ^ 32) where
+module _ (s : Spi) (bytes baud : ℕ) (irq : Bool) (now hz : ℕ) (w : SpiOk s) (b : bytes ≤ spiBytesMax) (d : baud ≤ spiBaudMax) (c : now ≤ clockMax) (g : hz < 2 ^ 32) where
   pub spi1-start-kept : SpiOk (spi1Started s bytes baud irq now hz)
   unfolding spi1Started
   spi1-start-kept =

@@ -3,6 +3,7 @@
 use base::NEVER;
 ghost use mathlib.Core.Path.{_≡_};
 ghost use Prim.Native.Nat.{_<_, _≤_, _^_};
+ghost use Rattle.base.specs.Limits.{spiBytesMax, spiBaudMax};
 ghost use Rattle.base.specs.Moments.{clockMax};
 ghost use Rattle.spi.specs.Spi.{spiNew, spi1Started, spi1Off, spi2Started, spi1At, spi2At, spiNext, spiWhole};
 
@@ -35,7 +36,7 @@ impl Spi {
 
     // A transfer of SPI1: its end, its time on the wire, and with `irq` its interrupt.
     pub fn spi1_start(mut self, bytes: u32, baud: u32, irq: bool, now: u64, hz: u32) -> Self
-        requires { ⌜ (bytes ≤ 65536) × (baud ≤ 16383) × (now ≤ clockMax) × (self .«spi1_wire» < 2 ^ 62) ⌝ }
+        requires { ⌜ (bytes ≤ spiBytesMax) × (baud ≤ spiBaudMax) × (now ≤ clockMax) × (self .«spi1_wire» < 2 ^ 62) ⌝ }
         ensures { λ r. ⌜ r ≡ spi1Started self bytes baud irq now hz ⌝ }
     {
         let cycles = times::spi1_cycles(bytes, baud, hz).0;
@@ -60,7 +61,7 @@ impl Spi {
 
     // A transfer of SPI2; only its interrupt has a time.
     pub fn spi2_start(mut self, bytes: u32, baud: u32, irq: bool, now: u64, hz: u32) -> Self
-        requires { ⌜ (bytes ≤ 65536) × (baud ≤ 16383) × (now ≤ clockMax) ⌝ }
+        requires { ⌜ (bytes ≤ spiBytesMax) × (baud ≤ spiBaudMax) × (now ≤ clockMax) ⌝ }
         ensures { λ r. ⌜ r ≡ spi2Started self bytes baud irq now hz ⌝ }
     {
         if irq {

@@ -3,8 +3,10 @@ use mathlib.Core.Path.{_≡_, refl}
 use mathlib.Core.Bool.{Bool, true, false, _&&_, _||_}
 use mathlib.Core.Logic.{_⊎_, inl, inr}
 use Prim.Native.Nat.{ℕ, _-_, _≤_}
+use native.Mathlib.Omega.{arith}
 use lib.Dec.{eqb, leb, ltb}
 use borrow.Author.Tests.{leb-true, le-leb, eqb-true, eq-eqb, ltb-true, lt-ltb}
+use Rattle.base.specs.Limits.{rateMin, rateMax}
 use Rattle.base.specs.Moments.{clockMax, never, isClock, isDeadline}
 use Rattle.base.proofs.All.{all-at, all-of}
 use Rattle.base.proofs.Deadlines.{deadline-fact, deadline-test}
@@ -38,12 +40,12 @@ use Rattle.state.proofs.Parts.{parts, pend-past}
 clock-facts : (c : Clock) → clockWhole c ≡ true → ClockOk c
 clock-facts c e =
     let p = both (isRate (c .hz)) (isClock (c .cycles)) e in
-    let q = both (leb 1_000_000 (c .hz)) (leb (c .hz) 800_000_000) (p .0) in
-    record { low = leb-true 1_000_000 (c .hz) (q .0); high = leb-true (c .hz) 800_000_000 (q .1); cycles = leb-true (c .cycles) clockMax (p .1) }
+    let q = both (leb rateMin (c .hz)) (leb (c .hz) rateMax) (p .0) in
+    record { low = leb-true rateMin (c .hz) (q .0); high = leb-true (c .hz) rateMax (q .1); cycles = leb-true (c .cycles) clockMax (p .1) }
 
 clock-test : (c : Clock) → ClockOk c → clockWhole c ≡ true
 clock-test c w =
-    rw (le-leb 1_000_000 (c .hz) (w .low), le-leb (c .hz) 800_000_000 (w .high), le-leb (c .cycles) clockMax (w .cycles))
+    rw (le-leb rateMin (c .hz) (w .low), le-leb (c .hz) rateMax (w .high), le-leb (c .cycles) clockMax (w .cycles))
 
 host-facts : (h : Host) → hostWhole h ≡ true → HostOk h
 host-facts h e =
@@ -138,3 +140,18 @@ module _ (b : Board) (t : Typed b) where
       let k = w .sound .chip in
       rw
       (clock-test (c .clock) (k .clock), t4-test (c .t4) now (k .t4), t5-test (c .t5) (k .t5), all-of (λ j. tmrWhole (tmrOf (c .tmr) j) now) 4 (λ i h. tmr-test (tmrOf (c .tmr) i) now (k .tmr i h)), tick-test (c .tick) now (k .tick), audio-test (c .audio) (k .audio), spi-test (c .spi) (k .spi), uart-test (c .uart) (k .uart), host-test (c .host) (k .host), script-test (c .script) (k .script), pins-test (c .pins) now (k .pins), encs-test (c .enc) (k .enc), keys-test (c .keys) (k .keys), le-leb (c .clock .«next_due») (nextEvent c) (w .due), ramps-test (b .panel .ramps) now (c .clock .hz) (w .sound .ramps), light-test (c .pins) (b .panel .acc) (w .sound .light))
+
+-- what the code's types say of a board, a whole one has by itself
+pub whole-typed : (b : Board) → Whole b → Typed b
+whole-typed b w =
+    let k = w .sound .chip in
+    record {
+      hz = omega (arith, k .clock .high);
+      t5 = k .t5 .prd;
+      tmr = λ i h. k .tmr i h .prd;
+      tmrs = k .tmrs;
+      otcnt = k .uart .otcnt;
+      encs = k .encs;
+      ramps = w .sound .sized;
+      forces = λ i h. (w .sound .ramps i h .from .held, w .sound .ramps i h .to .held);
+    }

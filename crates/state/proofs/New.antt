@@ -5,6 +5,7 @@ use Prim.Native.Nat.{ℕ, zero, suc, _/_, _≤_, _<_}
 use native.Mathlib.Omega.{arith}
 use lib.Ieee.{Float, nan}
 use lib.ListN.{getD-replicate}
+use Rattle.base.specs.Limits.{rateMin, rateMax}
 use Rattle.encoders.specs.Encoder.{encNew, encOf}
 use Rattle.encoders.specs.Facts.{EncOk}
 use Rattle.keys.specs.Keys.{rampOf, rampsNew}
@@ -43,7 +44,7 @@ enc-new (suc (suc (suc (suc (suc (suc zero)))))) = enc-ok
 enc-new (suc (suc (suc (suc (suc (suc (suc zero))))))) = enc-ok
 enc-new (suc (suc (suc (suc (suc (suc (suc (suc i)))))))) = enc-ok
 
-pub new-whole : (hz : ℕ) → 1_000_000 ≤ hz → hz ≤ 800_000_000 → Whole (boardNew hz)
+pub new-whole : (hz : ℕ) → rateMin ≤ hz → hz ≤ rateMax → Whole (boardNew hz)
 unfolding chipNew panelNew nextEvent
 new-whole hz l h = record {
   sound = record {

@@ -5,6 +5,7 @@ use mathlib.Core.List.{List, [], _∷_}
 use lib.Dec.{eqb, leb, ltb}
 use lib.ListN.{replicate}
 use Rattle.base.specs.Bits.{isSet}
+use Rattle.base.specs.Limits.{rateMin, rateMax}
 use Rattle.base.specs.Moments.{never, isClock, isDeadline, rearmedOf}
 use Rattle.adc.specs.Adc.{adcNew}
 use Rattle.audio.specs.Audio.{audioNew, audioWhole}
@@ -20,6 +21,7 @@ use Rattle.timers.specs.Timer.{tmrNew, tmrOf, tmrsNext, tmrsWhole}
 use Rattle.timers.specs.Timer4.{t4New, t4Whole}
 use Rattle.timers.specs.Timer5.{t5New}
 use Rattle.uart.specs.Uart.{uartNew, uartNext, uartWhole}
+use Rattle.state.specs.With.{withFrames, withWatchdog}
 use Rattle.state.specs.declared.Board.{Board}
 use Rattle.state.specs.declared.Chip.{Chip}
 use Rattle.state.specs.declared.Clock.{Clock}
@@ -98,13 +100,13 @@ usbDue h now = leb (h .«usb_next») now
 unfoldable pub usbAt : Host → ℕ → Host
 usbAt h now =
     cond (ltb now (h .«usb_next»)) h
-    (record { «usb_next» = rearmedOf (h .«usb_next») now (h .«usb_period»); «usb_period» = h .«usb_period»; «wdt_at» = h .«wdt_at» })
+    (withFrames h (rearmedOf (h .«usb_next») now (h .«usb_period»)) (h .«usb_period»))
 
 abbrev pub wdtDue : Host → ℕ → Bool
 wdtDue h now = leb (h .«wdt_at») now
 
 unfoldable pub wdtAt : Host → ℕ → Host
-wdtAt h now = cond (ltb now (h .«wdt_at»)) h (record { «usb_next» = h .«usb_next»; «usb_period» = h .«usb_period»; «wdt_at» = never })
+wdtAt h now = cond (ltb now (h .«wdt_at»)) h (withWatchdog h never)
 
 -- ---- what pends, as the blocks keep it
 
@@ -133,7 +135,7 @@ pendingOf c = record {
 
 -- "rate and clock are in range"
 abbrev pub isRate : ℕ → Bool
-isRate hz = leb 1_000_000 hz && leb hz 800_000_000
+isRate hz = leb rateMin hz && leb hz rateMax
 
 abbrev pub clockWhole : Clock → Bool
 clockWhole c = isRate (c .hz) && isClock (c .cycles)

@@ -5,6 +5,7 @@ use mathlib.Core.Logic.{_⊎_}
 use lib.Dec.{T}
 use lib.Ieee.{binary32, fits}
 use lib.ListN.{length}
+use Rattle.base.specs.Limits.{rateMin, rateMax}
 use Rattle.base.specs.Moments.{clockMax, never, Deadline}
 use Rattle.audio.specs.Facts.{AudioOk}
 use Rattle.encoders.specs.Encoder.{encOf}
@@ -37,8 +38,8 @@ pub record Typed (b : Board) : Type 0 where
 
 -- "rate and clock are in range"
 pub record ClockOk (c : Clock) : Type 0 where
-  pub low : 1_000_000 ≤ c .hz
-  pub high : c .hz ≤ 800_000_000
+  pub low : rateMin ≤ c .hz
+  pub high : c .hz ≤ rateMax
   pub cycles : c .cycles ≤ clockMax
 
 -- "the USB period is in range if armed"

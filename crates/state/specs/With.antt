@@ -64,18 +64,33 @@ withAdc c x = record { clock = c .clock; t4 = c .t4; t5 = c .t5; tmr = c .tmr; t
 abbrev pub withLatch : Chip → Latch → Chip
 withLatch c x = record { clock = c .clock; t4 = c .t4; t5 = c .t5; tmr = c .tmr; tick = c .tick; audio = c .audio; spi = c .spi; uart = c .uart; host = c .host; script = c .script; pins = c .pins; enc = c .enc; keys = c .keys; adc = c .adc; latch = x }
 
--- the clock at other cycles, with other words on what is due and on what was jumped over; the runner's settings stay
-abbrev pub clockAt : Clock → ℕ → ℕ → ℕ → Clock
-clockAt k cycles due skipped = record {
+-- The clock with these fields: whatever changes some of them goes by this, so that a field more is written here, in `clockNew`, and where it changes.
+abbrev pub clockBy : Clock → ℕ → ℕ → ℕ → ℕ → ℕ → ℕ → ℕ → Clock
+clockBy k cycles due ticks cap skipped isr skip = record {
   cycles = cycles;
   «next_due» = due;
-  «cycle_ticks» = k .«cycle_ticks»;
-  «room_cap» = k .«room_cap»;
+  «cycle_ticks» = ticks;
+  «room_cap» = cap;
   skipped = skipped;
-  «in_isr» = k .«in_isr»;
+  «in_isr» = isr;
   hz = k .hz;
-  «skip_idle» = k .«skip_idle»;
+  «skip_idle» = skip;
 }
+
+-- the clock at other cycles, with other words on what is due and on what was jumped over; the runner's settings stay
+abbrev pub clockAt : Clock → ℕ → ℕ → ℕ → Clock
+clockAt k cycles due skipped = clockBy k cycles due (k .«cycle_ticks») (k .«room_cap») skipped (k .«in_isr») (k .«skip_idle»)
+
+-- the clock with other settings
+abbrev pub setClock : Clock → ℕ → ℕ → ℕ → ℕ → Clock
+setClock k ticks cap isr skip = clockBy k (k .cycles) (k .«next_due») ticks cap (k .skipped) isr skip
+
+-- the host's frames, when the next comes and how far apart they are; its watchdog
+abbrev pub withFrames : Host → ℕ → ℕ → Host
+withFrames h next period = record { «usb_next» = next; «usb_period» = period; «wdt_at» = h .«wdt_at» }
+
+abbrev pub withWatchdog : Host → ℕ → Host
+withWatchdog h at = record { «usb_next» = h .«usb_next»; «usb_period» = h .«usb_period»; «wdt_at» = at }
 
 abbrev pub movedTo : Chip → ℕ → Chip
 movedTo c cycles = withClock c (clockAt (c .clock) cycles (c .clock .«next_due») (c .clock .skipped))

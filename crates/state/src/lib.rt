@@ -4,6 +4,8 @@
 use adc::Adc;
 use audio::Audio;
 use base::NEVER;
+use base::RATE_MAX;
+use base::RATE_MIN;
 use base::is_clock;
 use base::is_deadline;
 use base::least;
@@ -133,7 +135,7 @@ impl Clock {
 pub fn is_rate(hz: u32) -> bool
     ensures { λ r. ⌜ r ≡ isRate hz ⌝ }
 {
-    (1_000_000 <= hz) & (hz <= 800_000_000)
+    (RATE_MIN <= hz) & (hz <= RATE_MAX)
 }
 
 impl Host {

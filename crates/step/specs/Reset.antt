@@ -2,12 +2,14 @@
 use Prim.Native.Nat.{ℕ}
 use mathlib.Core.List.{List, [], _∷_, map}
 use Rattle.adc.specs.Adc.{adcNew}
+use Rattle.audio.specs.Audio.{audioNew, playing}
 use Rattle.audio.specs.declared.Audio.{Audio}
 use Rattle.base.specs.Moments.{never}
 use Rattle.irq.specs.Latch.{latchNew}
 use Rattle.panel.specs.Pins.{pinsReset}
+use Rattle.spi.specs.Spi.{spiNew, spi1With}
 use Rattle.spi.specs.declared.Spi.{Spi}
-use Rattle.state.specs.With.{withChip}
+use Rattle.state.specs.With.{withChip, clockAt, setClock, withWatchdog}
 use Rattle.state.specs.declared.Board.{Board}
 use Rattle.state.specs.declared.Chip.{Chip}
 use Rattle.state.specs.declared.Clock.{Clock}
@@ -20,35 +22,19 @@ use Rattle.uart.specs.Uart.{chipReset as uartReset}
 
 -- "the clock and the runner's settings", but not `in_isr`; the next step looks at everything
 abbrev pub clockReset : Clock → Clock
-clockReset k = record {
-  cycles = k .cycles;
-  «next_due» = 0;
-  «cycle_ticks» = k .«cycle_ticks»;
-  «room_cap» = k .«room_cap»;
-  skipped = k .skipped;
-  «in_isr» = 0;
-  hz = k .hz;
-  «skip_idle» = k .«skip_idle»;
-}
+clockReset k = clockAt (setClock k (k .«cycle_ticks») (k .«room_cap») 0 (k .«skip_idle»)) (k .cycles) 0 (k .skipped)
 
 -- the count of halves played stays
 abbrev pub audioReset : Audio → Audio
-audioReset a = record { next = never; halves = a .halves; half = 0; con0 = 0; con1 = 0; con3 = 0; pend = 0; adr = 0; len = 0 }
+audioReset a = playing audioNew never (a .halves) 0 0 0
 
 -- "the LCD's time on the wire so far"
 abbrev pub spiReset : Spi → Spi
-spiReset s = record {
-  «spi1_done_at» = 0;
-  «spi1_irq_at» = never;
-  «spi1_wire» = s .«spi1_wire»;
-  «spi2_next» = never;
-  «spi1_pending» = 0;
-  «spi2_pending» = 0;
-}
+spiReset s = spi1With spiNew 0 never (s .«spi1_wire») 0
 
 -- "a USB cable (its frames)"
 abbrev pub hostReset : Host → Host
-hostReset h = record { «usb_next» = h .«usb_next»; «usb_period» = h .«usb_period»; «wdt_at» = never }
+hostReset h = withWatchdog h never
 
 unfoldable pub kept : Chip → Chip
 kept c = record {

@@ -25,7 +25,7 @@ use Rattle.uart.specs.declared.Byte.the-variants.{None as noByte}
 use Rattle.step.specs.Apply.{applyOf, applyIn}
 use Rattle.step.specs.Stages.{nowOf, servedOf}
 use Rattle.step.specs.declared.Going.{Going}
-use Rattle.step.specs.declared.Pushing.{Pushing}
+use Rattle.board_guard.specs.declared.Done.{Done}
 use Rattle.step.specs.declared.Spot.{Spot}
 use Rattle.step.specs.declared.Stepped.{Stepped}
 use Rattle.step.specs.declared.stages.Served.{Served}
@@ -248,5 +248,5 @@ placedOf b front at =
     (record { board = morePushed b at; place = spotOf (b .chip .script); refused = 0; ok = true })
     (record { board = b; place = 0; refused = pushRefusal b front; ok = false })
 
-abbrev pub pushedOf : Spot → Pushing
+abbrev pub pushedOf : Spot → Done
 pushedOf s = record { board = s .board; refused = s .refused }

@@ -14,6 +14,7 @@ use base::FULL;
 use base::SIZE;
 use base::STATE;
 use base::TIME;
+use board_guard::Done;
 use records::Wrote;
 use records::encode_timed;
 pub use reset::chip_reset;
@@ -92,13 +93,8 @@ pub struct Spot {
     pub ok: bool,
 }
 
-pub struct Pushing {
-    pub board: Board,
-    pub refused: u32,
-}
-
 // Room for the records of as many entries, of at most 17 bytes each.
-const OUT_BYTES: usize = 4352;
+pub const OUT_BYTES: usize = 4352;
 
 // Where the script's front stands.
 pub fn front_place(b: Board) -> usize
@@ -345,11 +341,11 @@ pub fn placed(mut b: Board, front: Front, at: u64) -> Spot
     }
 }
 
-pub fn pushed(s: Spot) -> Pushing
+pub fn pushed(s: Spot) -> Done
     ensures { λ r. ⌜ r ≡ pushedOf s ⌝ }
 {
     let b = s.board;
-    Pushing {
+    Done {
         board: b,
         refused: s.refused,
     }

@@ -2,6 +2,7 @@
 use mathlib.Core.Path.{_≡_}
 use mathlib.Core.Bool.{true, false}
 use mathlib.Core.List.{List, []}
+use Prim.Native.Char.{code}
 use Prim.Native.Nat.{ℕ, _+_, _-_, _≤_, _<_}
 use native.Mathlib.Omega.{arith}
 use borrow.Author.Tests.{le-leb, lt-leb}
@@ -30,7 +31,7 @@ pub word-inside :
     at ≤ length line →
     (at ≤ wordAt line at .from) × (wordAt line at .from ≤ wordAt line at .to) × (wordAt line at .to ≤ length line)
 word-inside line at h =
-    let from : ℕ = at + runLength true (drop at line) in
-    let spaces : runLength true (drop at line) ≤ length line - at = rw length-drop at (run-within true (drop at line)) in
-    let others : runLength false (drop from line) ≤ length line - from = rw length-drop at (run-within false (drop from line)) in
+    let from : ℕ = at + runLength (code " ") true (drop at line) in
+    let spaces : runLength (code " ") true (drop at line) ≤ length line - at = rw length-drop at (run-within (code " ") true (drop at line)) in
+    let others : runLength (code " ") false (drop from line) ≤ length line - from = rw length-drop at (run-within (code " ") false (drop from line)) in
     (omega arith, omega arith, omega arith)

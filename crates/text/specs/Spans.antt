@@ -1,4 +1,4 @@
--- Words of a line, and the bytes of a word.
+-- Lines, words of a line, and the bytes of a word.
 use Prim.Native.Nat.{ℕ, suc, _+_, _-_}
 use Prim.Native.Char.{code}
 use mathlib.Core.Bool.{Bool, true, false, Bool·beq, _&&_, _||_, cond}
@@ -11,24 +11,28 @@ use Rattle.text.specs.declared.Span.{Span}
 abbrev pub isSpace : ℕ → Bool
 isSpace b = eqb b (code " ")
 
--- a byte that goes on with a run of spaces, or of other bytes
-abbrev pub isOfRun : Bool → ℕ → Bool
-isOfRun spaces b = Bool·beq (isSpace b) spaces
+-- a byte that goes on with a run of marks (spaces, line feeds), or of other bytes
+abbrev pub isOfRun : ℕ → Bool → ℕ → Bool
+isOfRun mark marks b = Bool·beq (eqb b mark) marks
 
 -- how many bytes at the front of s are such
-unfoldable pub runLength : Bool → List ℕ → ℕ
-runLength spaces [] = 0
-runLength spaces (b ∷ s) = cond (isOfRun spaces b) (suc (runLength spaces s)) 0
+unfoldable pub runLength : ℕ → Bool → List ℕ → ℕ
+runLength mark marks [] = 0
+runLength mark marks (b ∷ s) = cond (isOfRun mark marks b) (suc (runLength mark marks s)) 0
 
 -- the place where the run from `at` on ends: `at` itself where it is past the end
-abbrev pub runEnd : Bool → List ℕ → ℕ → ℕ
-runEnd spaces line at = at + runLength spaces (drop at line)
+abbrev pub runEnd : ℕ → Bool → List ℕ → ℕ → ℕ
+runEnd mark marks line at = at + runLength mark marks (drop at line)
+
+-- "a line ends with a line feed": the place of the next from `at` on, or the end
+abbrev pub lineEnd : List ℕ → ℕ → ℕ
+lineEnd bytes at = runEnd 10 false bytes at
 
 -- "the next word from `at` on": behind the spaces, to the end of the other bytes
 abbrev pub wordAt : List ℕ → ℕ → Span
 wordAt line at = record {
-  from = runEnd true line at;
-  to = runEnd false line (runEnd true line at);
+  from = runEnd (code " ") true line at;
+  to = runEnd (code " ") false line (runEnd (code " ") true line at);
 }
 
 abbrev pub isInside : List ℕ → Span → Bool

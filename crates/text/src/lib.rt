@@ -8,7 +8,7 @@ ghost use mathlib.Core.List.{_++_};
 ghost use Prim.Native.Nat.{_≤_};
 ghost use lib.ListN.{length, drop};
 ghost use Rattle.text.specs.Putting.{placeAfter, putByte, placeAfterAll, putAll, decimalOf, hexOf, firstOf};
-ghost use Rattle.text.specs.Spans.{runEnd, wordAt, bytesIn, isText, isPassedOver};
+ghost use Rattle.text.specs.Spans.{runEnd, lineEnd, wordAt, bytesIn, isText, isPassedOver};
 ghost use Rattle.text.specs.Numerals.{digitOf, allDigits, decimalIn, hexIn};
 ghost use Rattle.text.specs.HexBytes.{isDash, isPairs, pairs, unhexedAnswer, unhexedBytes};
 
@@ -88,13 +88,13 @@ pub fn first(s: &[u8], n: usize) -> &[u8]
     &s[..0]
 }
 
-// The first place from `at` on where a run of spaces, or of other bytes, ends.
-fn run_end(line: &[u8], at: usize, spaces: bool) -> usize
-    ensures { λ r. ⌜ r ≡ runEnd spaces (now (line .entry)) at ⌝ }
+// The first place from `at` on where a run of marks, or of other bytes, ends.
+fn run_end(line: &[u8], at: usize, mark: u8, marks: bool) -> usize
+    ensures { λ r. ⌜ r ≡ runEnd mark marks (now (line .entry)) at ⌝ }
 {
     let mut i = at;
     while i < line.len() {
-        if (line[i] == b' ') != spaces {
+        if (line[i] == mark) != marks {
             return i;
         }
         i = i + 1;
@@ -102,14 +102,21 @@ fn run_end(line: &[u8], at: usize, spaces: bool) -> usize
     i
 }
 
+// The place of the next line feed from `at` on, or the end: where a line that begins at `at` ends.
+pub fn line_end(bytes: &[u8], at: usize) -> usize
+    ensures { λ r. ⌜ r ≡ lineEnd (now (bytes .entry)) at ⌝ }
+{
+    run_end(bytes, at, b'\n', false)
+}
+
 // The next word from `at` on; empty where there is none.
 pub fn word(line: &[u8], at: usize) -> Span
     ensures { λ r. ⌜ r ≡ wordAt (now (line .entry)) at ⌝ }
 {
-    let from = run_end(line, at, true);
+    let from = run_end(line, at, b' ', true);
     Span {
         from: from,
-        to: run_end(line, from, false),
+        to: run_end(line, from, b' ', false),
     }
 }
 
@@ -123,7 +130,7 @@ pub fn is_passed_over(line: &[u8]) -> bool
     if line[0] == b'#' {
         return true;
     }
-    line.len() <= run_end(line, 0, true)
+    line.len() <= run_end(line, 0, b' ', true)
 }
 
 // The span is inside the line and its bytes are the text.

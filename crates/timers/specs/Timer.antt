@@ -23,18 +23,18 @@ tmrPerCount t hz = max (cyclesOfMhz24 (dividerOf (t .con / 16)) hz) 1
 unfoldable pub tmrPeriod : Tmr → ℕ → ℕ
 tmrPeriod t hz = max (t .prd) 1 * tmrPerCount t hz
 
+-- the timer counting from another moment on, to another deadline; and with other registers: CON, PRD, where it counts from, its pending
+abbrev pub tmrCounting : Tmr → ℕ → ℕ → Tmr
+tmrCounting t start next = record { start = start; next = next; con = t .con; prd = t .prd; cnt0 = t .cnt0; pending = t .pending }
+
+abbrev pub tmrWith : Tmr → ℕ → ℕ → ℕ → ℕ → Tmr
+tmrWith t con prd cnt0 pending = record { start = t .start; next = t .next; con = con; prd = prd; cnt0 = cnt0; pending = pending }
+
 -- before its deadline nothing; at it pending, counting from 0 since that deadline, and rearmed
 unfoldable pub tmrAt : Tmr → ℕ → ℕ → Tmr
 tmrAt t now hz =
     cond (ltb now (t .next)) t
-    (record {
-      start = t .next;
-      next = rearmedOf (t .next) now (tmrPeriod t hz);
-      con = t .con;
-      prd = t .prd;
-      cnt0 = 0;
-      pending = 1;
-    })
+    (tmrCounting (tmrWith t (t .con) (t .prd) 0 1) (t .next) (rearmedOf (t .next) now (tmrPeriod t hz)))
 
 -- +0: bit 15 is its interrupt
 abbrev pub tmrCon : Tmr → ℕ
@@ -53,43 +53,21 @@ tmrPrd t = t .prd
 unfoldable pub tmrArmed : Tmr → ℕ → ℕ → Tmr
 tmrArmed t now hz =
     cond (eqb (bitAnd (t .con) 3) 0 || eqb (t .prd) 0)
-    (record { start = t .start; next = never; con = t .con; prd = t .prd; cnt0 = t .cnt0; pending = t .pending })
-    (record {
-      start = now;
-      next = now + max (t .prd - t .cnt0) 1 * tmrPerCount t hz;
-      con = t .con;
-      prd = t .prd;
-      cnt0 = t .cnt0;
-      pending = t .pending;
-    })
+    (tmrCounting t (t .start) never)
+    (tmrCounting t now (now + max (t .prd - t .cnt0) 1 * tmrPerCount t hz))
 
 -- +0 written: bit 14 acknowledges; bits 14 and 15 are not kept
 unfoldable pub tmrConWritten : Tmr → ℕ → ℕ → ℕ → Tmr
 tmrConWritten t v now hz =
-    tmrArmed
-    (record {
-      start = t .start;
-      next = t .next;
-      con = bitAnd v 0xffff3fff;
-      prd = t .prd;
-      cnt0 = t .cnt0;
-      pending = unlessOf (isSet v 0x4000) (t .pending);
-    })
-    now hz
+    tmrArmed (tmrWith t (bitAnd v 0xffff3fff) (t .prd) (t .cnt0) (unlessOf (isSet v 0x4000) (t .pending))) now hz
 
 -- +4 written
 unfoldable pub tmrCntWritten : Tmr → ℕ → ℕ → ℕ → Tmr
-tmrCntWritten t v now hz =
-    tmrArmed
-    (record { start = t .start; next = t .next; con = t .con; prd = t .prd; cnt0 = v; pending = t .pending })
-    now hz
+tmrCntWritten t v now hz = tmrArmed (tmrWith t (t .con) (t .prd) v (t .pending)) now hz
 
 -- +8 written
 unfoldable pub tmrPrdWritten : Tmr → ℕ → ℕ → ℕ → Tmr
-tmrPrdWritten t v now hz =
-    tmrArmed
-    (record { start = t .start; next = t .next; con = t .con; prd = v; cnt0 = t .cnt0; pending = t .pending })
-    now hz
+tmrPrdWritten t v now hz = tmrArmed (tmrWith t (t .con) v (t .cnt0) (t .pending)) now hz
 
 -- its part of a whole record: the start is past, the next a deadline
 abbrev pub tmrWhole : Tmr → ℕ → Bool

@@ -29,15 +29,19 @@ abbrev pub pollEnd : ℕ → ℕ → ℕ → ℕ → ℕ
 pollEnd streak now hz event =
     cond (ltb streak 2) now (cond (ltb (now + 1) (min event (now + hz / 50_000))) (min event (now + hz / 50_000) - 1) now)
 
+-- the timer counting from another moment, with another CON; and after another read of its count
+abbrev pub t4Counting : T4 → ℕ → ℕ → T4
+t4Counting t base con = record { base = base; «last_cnt_read» = t .«last_cnt_read»; con = con; «cnt_streak» = t .«cnt_streak» }
+
+abbrev pub t4After : T4 → ℕ → ℕ → T4
+t4After t last streak = record { base = t .base; «last_cnt_read» = last; con = t .con; «cnt_streak» = streak }
+
 -- a count read of a running TIMER4 outside an ISR with skipping on: the timer after it, and the clock
 unfoldable pub pollOf : T4 → ℕ → ℕ → ℕ → Polled
 pollOf t now hz event =
     let streak = streakOf (t .«cnt_streak») (now - t .«last_cnt_read») in
     let end = pollEnd streak now hz event in
-    record {
-      t4 = record { base = t .base; «last_cnt_read» = end; con = t .con; «cnt_streak» = streak };
-      clock = end;
-    }
+    record { t4 = t4After t end streak; clock = end }
 
 -- what such a read adds to `skipped`, which wraps, and what it leaves of `next_due`: 0 where it jumped
 abbrev pub pollSkipped : ℕ → ℕ → ℕ → ℕ
@@ -48,18 +52,11 @@ pollDue due now end = cond (ltb now end) 0 due
 
 -- 0x10800 written: going on starts the count; bit 14 is not kept
 abbrev pub t4ConWritten : T4 → ℕ → ℕ → T4
-t4ConWritten t v now =
-    record {
-      base = startedOf (isSet (t .con) 1) (isSet v 1) (t .base) now;
-      «last_cnt_read» = t .«last_cnt_read»;
-      con = bitAnd v 0xffffbfff;
-      «cnt_streak» = t .«cnt_streak»;
-    }
+t4ConWritten t v now = t4Counting t (startedOf (isSet (t .con) 1) (isSet v 1) (t .base) now) (bitAnd v 0xffffbfff)
 
 -- 0x10804 written, whatever it is: a restart. 0x10808 written: nothing
 abbrev pub t4CntWritten : T4 → ℕ → T4
-t4CntWritten t now =
-    record { base = now; «last_cnt_read» = t .«last_cnt_read»; con = t .con; «cnt_streak» = t .«cnt_streak» }
+t4CntWritten t now = t4Counting t now (t .con)
 
 -- its part of a whole record: its moments are past
 abbrev pub t4Whole : T4 → ℕ → Bool

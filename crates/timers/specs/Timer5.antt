@@ -15,11 +15,15 @@ t5New = record { next = never; pending = 0; con = 0; prd = 0 }
 unfoldable pub t5Period : T5 → ℕ → ℕ
 t5Period t hz = max (cyclesOfMhz6 (max (t .prd) 1) hz) 1
 
+-- the timer with another deadline, pending, CON and PRD
+abbrev pub t5With : T5 → ℕ → ℕ → ℕ → ℕ → T5
+t5With t next pending con prd = record { next = next; pending = pending; con = con; prd = prd }
+
 -- before its deadline nothing; at it pending, and rearmed
 unfoldable pub t5At : T5 → ℕ → ℕ → T5
 t5At t now hz =
     cond (ltb now (t .next)) t
-    (record { next = rearmedOf (t .next) now (t5Period t hz); pending = 1; con = t .con; prd = t .prd })
+    (t5With t (rearmedOf (t .next) now (t5Period t hz)) 1 (t .con) (t .prd))
 
 -- 0x10900: bit 15 is its interrupt
 abbrev pub t5Con : T5 → ℕ
@@ -40,13 +44,9 @@ t5Prd t = t .prd
 -- 0x10900 written: bit 14 acknowledges, bit 0 starts a period or stops it; bits 14 and 15 are not kept
 unfoldable pub t5ConWritten : T5 → ℕ → ℕ → ℕ → T5
 t5ConWritten t v now hz =
-    record {
-      next = switchedOf (isSet (t .con) 1) (isSet v 1) (t .next) (now + t5Period t hz);
-      pending = unlessOf (isSet v 0x4000) (t .pending);
-      con = bitAnd v 0xffff3fff;
-      prd = t .prd;
-    }
+    t5With t (switchedOf (isSet (t .con) 1) (isSet v 1) (t .next) (now + t5Period t hz))
+    (unlessOf (isSet v 0x4000) (t .pending)) (bitAnd v 0xffff3fff) (t .prd)
 
 -- 0x10904 written: nothing. 0x10908:
 abbrev pub t5PrdWritten : T5 → ℕ → T5
-t5PrdWritten t v = record { next = t .next; pending = t .pending; con = t .con; prd = v }
+t5PrdWritten t v = t5With t (t .next) (t .pending) (t .con) v

@@ -10,6 +10,7 @@ pub use wide::mul_div;
 pub use wide::quotient;
 ghost use mathlib.Core.Path.{_≡_};
 ghost use Prim.Native.Nat.{_*_, _^_, _≤_, _<_};
+ghost use Rattle.base.specs.Limits.{spiBytesMax, spiBaudMax};
 ghost use Rattle.times.specs.Clocks.{
   mhz24OfCycles,
   cyclesOfMhz24,
@@ -136,7 +137,7 @@ pub fn ms_cycles(time: RampTime, hz: u32) -> Cycles
 
 // An SPI1 transfer's cycles: 8 bits a byte at 60 MHz / (baud + 1), the clock itself a whole number. No bytes count as one.
 pub fn spi1_cycles(bytes: u32, baud: u32, hz: u32) -> Cycles
-    requires { ⌜ (bytes ≤ 65536) × (baud ≤ 16383) ⌝ }
+    requires { ⌜ (bytes ≤ spiBytesMax) × (baud ≤ spiBaudMax) ⌝ }
     ensures { λ r. ⌜ r .0 ≡ spi1Cycles bytes baud hz ⌝ }
     ensures bounded { λ r. ⌜ r .0 < 2 ^ 40 ⌝ }
 {
@@ -147,7 +148,7 @@ pub fn spi1_cycles(bytes: u32, baud: u32, hz: u32) -> Cycles
 
 // An SPI2 transfer's cycles: 16 * (baud + 1) clocks of 48 MHz a byte, so baud + 1 of 3 MHz. No bytes count as one.
 pub fn spi2_cycles(bytes: u32, baud: u32, hz: u32) -> Cycles
-    requires { ⌜ (bytes ≤ 65536) × (baud ≤ 16383) ⌝ }
+    requires { ⌜ (bytes ≤ spiBytesMax) × (baud ≤ spiBaudMax) ⌝ }
     ensures { λ r. ⌜ r .0 ≡ spi2Cycles bytes baud hz ⌝ }
     ensures bounded { λ r. ⌜ r .0 < 2 ^ 41 ⌝ }
 {

@@ -38,6 +38,29 @@ uartNew =
       count = 0;
     }
 
+-- The record with these fields: whatever changes some of them goes by this, so that a field more is written here, in `uartNew`, and where it changes.
+abbrev pub uartBy : Uart → ℕ → ℕ → ℕ → ℕ → ℕ → ℕ → ℕ → ℕ → ℕ → ℕ → ℕ → ℕ → ℕ → ℕ → ℕ → ℕ → ℕ → Uart
+uartBy u next at dropped con0 rxsadr rxeadr rxcnt otcnt hrxcnt since wr rpnd otpnd tpnd irq place count =
+    record {
+      next = next;
+      «ot_next» = at;
+      dropped = dropped;
+      con0 = con0;
+      rxsadr = rxsadr;
+      rxeadr = rxeadr;
+      rxcnt = rxcnt;
+      otcnt = otcnt;
+      hrxcnt = hrxcnt;
+      since = since;
+      wr = wr;
+      rpnd = rpnd;
+      otpnd = otpnd;
+      tpnd = tpnd;
+      irq = irq;
+      place = place;
+      count = count;
+    }
+
 -- ---- the queue
 
 -- "Lent: queue 3,125 bytes"
@@ -55,25 +78,7 @@ frontDue u now hz = cond (eqb (u .count) 0) never (now + byteTime hz)
 -- the record with another queue: when its first byte arrives, the bytes lost, its place and its count
 abbrev pub withQueue : Uart → ℕ → ℕ → ℕ → ℕ → Uart
 withQueue u next dropped place count =
-    record {
-      next = next;
-      «ot_next» = u .«ot_next»;
-      dropped = dropped;
-      con0 = u .con0;
-      rxsadr = u .rxsadr;
-      rxeadr = u .rxeadr;
-      rxcnt = u .rxcnt;
-      otcnt = u .otcnt;
-      hrxcnt = u .hrxcnt;
-      since = u .since;
-      wr = u .wr;
-      rpnd = u .rpnd;
-      otpnd = u .otpnd;
-      tpnd = u .tpnd;
-      irq = u .irq;
-      place = place;
-      count = count;
-    }
+    uartBy u next (u .«ot_next») dropped (u .con0) (u .rxsadr) (u .rxeadr) (u .rxcnt) (u .otcnt) (u .hrxcnt) (u .since) (u .wr) (u .rpnd) (u .otpnd) (u .tpnd) (u .irq) place count
 
 -- another deadline
 abbrev pub dueAt : Uart → ℕ → Uart
@@ -136,52 +141,26 @@ lineOf u =
     (isSet (u .con0) 0x08 && not (eqb (u .rpnd) 0)) || (isSet (u .con0) 0x20 && not (eqb (u .otpnd) 0))
     || (isSet (u .con0) 0x04 && not (eqb (u .tpnd) 0))
 
+-- the record with other pendings (a received byte's, the timeout's, a sent byte's) and another interrupt line
+abbrev pub withPendings : Uart → ℕ → ℕ → ℕ → ℕ → Uart
+withPendings u rpnd otpnd tpnd irq =
+    uartBy u (u .next) (u .«ot_next») (u .dropped) (u .con0) (u .rxsadr) (u .rxeadr) (u .rxcnt) (u .otcnt) (u .hrxcnt) (u .since) (u .wr) rpnd otpnd tpnd irq (u .place) (u .count)
+
+-- the record with another state of reception: CON0, when the timeout comes, the count latched, the bytes since, the write place
+abbrev pub withReception : Uart → ℕ → ℕ → ℕ → ℕ → ℕ → Uart
+withReception u con0 at hrxcnt since wr =
+    uartBy u (u .next) at (u .dropped) con0 (u .rxsadr) (u .rxeadr) (u .rxcnt) (u .otcnt) hrxcnt since wr (u .rpnd) (u .otpnd) (u .tpnd) (u .irq) (u .place) (u .count)
+
 -- `uart_update`: the interrupt line follows the pendings
 unfoldable pub updated : Uart → Uart
-updated u =
-    record {
-      next = u .next;
-      «ot_next» = u .«ot_next»;
-      dropped = u .dropped;
-      con0 = u .con0;
-      rxsadr = u .rxsadr;
-      rxeadr = u .rxeadr;
-      rxcnt = u .rxcnt;
-      otcnt = u .otcnt;
-      hrxcnt = u .hrxcnt;
-      since = u .since;
-      wr = u .wr;
-      rpnd = u .rpnd;
-      otpnd = u .otpnd;
-      tpnd = u .tpnd;
-      irq = whenOf (lineOf u) 1;
-      place = u .place;
-      count = u .count;
-    }
+updated u = withPendings u (u .rpnd) (u .otpnd) (u .tpnd) (whenOf (lineOf u) 1)
 
 -- a byte that the DMA has written: it pends once RXCNT bytes have come, and the timeout is from now
 unfoldable pub stored : Uart → ℕ → ℕ → Uart
 stored u now hz =
     updated
-    (record {
-      next = u .next;
-      «ot_next» = now + timeoutOf u hz;
-      dropped = u .dropped;
-      con0 = u .con0;
-      rxsadr = u .rxsadr;
-      rxeadr = u .rxeadr;
-      rxcnt = u .rxcnt;
-      otcnt = u .otcnt;
-      hrxcnt = u .hrxcnt;
-      since = sinceOf u;
-      wr = (u .wr + 1) % ringLen u;
-      rpnd = cond (not (eqb (u .rxcnt) 0) && leb (u .rxcnt) (sinceOf u)) 1 (u .rpnd);
-      otpnd = u .otpnd;
-      tpnd = u .tpnd;
-      irq = u .irq;
-      place = u .place;
-      count = u .count;
-    })
+    (withPendings (withReception u (u .con0) (now + timeoutOf u hz) (u .hrxcnt) (sinceOf u) ((u .wr + 1) % ringLen u))
+    (cond (not (eqb (u .rxcnt) 0) && leb (u .rxcnt) (sinceOf u)) 1 (u .rpnd)) (u .otpnd) (u .tpnd) (u .irq))
 
 -- a byte that has arrived: received, or lost
 unfoldable pub arrived : Uart → ℕ → ℕ → ℕ → Received
@@ -206,25 +185,7 @@ handed None = 0
 -- the record with another timeout: when it comes, and whether it pends
 abbrev pub withTimeout : Uart → ℕ → ℕ → Uart
 withTimeout u at pending =
-    record {
-      next = u .next;
-      «ot_next» = at;
-      dropped = u .dropped;
-      con0 = u .con0;
-      rxsadr = u .rxsadr;
-      rxeadr = u .rxeadr;
-      rxcnt = u .rxcnt;
-      otcnt = u .otcnt;
-      hrxcnt = u .hrxcnt;
-      since = u .since;
-      wr = u .wr;
-      rpnd = u .rpnd;
-      otpnd = pending;
-      tpnd = u .tpnd;
-      irq = u .irq;
-      place = u .place;
-      count = u .count;
-    }
+    withPendings (withReception u (u .con0) at (u .hrxcnt) (u .since) (u .wr)) (u .rpnd) pending (u .tpnd) (u .irq)
 
 -- it comes once; it pends only where the UART is on
 abbrev pub silent : Uart → Uart
@@ -249,25 +210,9 @@ con0Read u =
 unfoldable pub con0Written : Uart → ℕ → Uart
 con0Written u v =
     updated
-    (record {
-      next = u .next;
-      «ot_next» = u .«ot_next»;
-      dropped = u .dropped;
-      con0 = bitAnd v 0x037f;
-      rxsadr = u .rxsadr;
-      rxeadr = u .rxeadr;
-      rxcnt = u .rxcnt;
-      otcnt = u .otcnt;
-      hrxcnt = cond (isSet v 0x80) (u .since) (u .hrxcnt);
-      since = unlessOf (isSet v 0x80) (u .since);
-      wr = u .wr;
-      rpnd = unlessOf (isSet v 0x1000) (u .rpnd);
-      otpnd = unlessOf (isSet v 0x400) (u .otpnd);
-      tpnd = unlessOf (isSet v 0x2000) (u .tpnd);
-      irq = u .irq;
-      place = u .place;
-      count = u .count;
-    })
+    (withPendings
+    (withReception u (bitAnd v 0x037f) (u .«ot_next») (cond (isSet v 0x80) (u .since) (u .hrxcnt)) (unlessOf (isSet v 0x80) (u .since)) (u .wr))
+    (unlessOf (isSet v 0x1000) (u .rpnd)) (unlessOf (isSet v 0x400) (u .otpnd)) (unlessOf (isSet v 0x2000) (u .tpnd)) (u .irq))
 
 -- 0x1211c, 0x12120, 0x12124, 0x12110, 0x12128: each reads as it is kept
 abbrev pub rxsadrRead : Uart → ℕ
@@ -288,25 +233,7 @@ hrxcntRead u = u .hrxcnt
 -- the record with another ring for the DMA, its write place, and other counts
 abbrev pub withRing : Uart → ℕ → ℕ → ℕ → ℕ → ℕ → Uart
 withRing u rxsadr rxeadr wr rxcnt otcnt =
-    record {
-      next = u .next;
-      «ot_next» = u .«ot_next»;
-      dropped = u .dropped;
-      con0 = u .con0;
-      rxsadr = rxsadr;
-      rxeadr = rxeadr;
-      rxcnt = rxcnt;
-      otcnt = otcnt;
-      hrxcnt = u .hrxcnt;
-      since = u .since;
-      wr = wr;
-      rpnd = u .rpnd;
-      otpnd = u .otpnd;
-      tpnd = u .tpnd;
-      irq = u .irq;
-      place = u .place;
-      count = u .count;
-    }
+    uartBy u (u .next) (u .«ot_next») (u .dropped) (u .con0) rxsadr rxeadr rxcnt otcnt (u .hrxcnt) (u .since) wr (u .rpnd) (u .otpnd) (u .tpnd) (u .irq) (u .place) (u .count)
 
 -- 0x1211c written: "the ring's start resets the DMA's write position"
 abbrev pub rxsadrWritten : Uart → ℕ → Uart
@@ -326,27 +253,7 @@ otcntWritten u v = withRing u (u .rxsadr) (u .rxeadr) (u .wr) (u .rxcnt) v
 
 -- 0x12118 written, whatever it is: "sent at once", so TX pends
 unfoldable pub txcntWritten : Uart → Uart
-txcntWritten u =
-    updated
-    (record {
-      next = u .next;
-      «ot_next» = u .«ot_next»;
-      dropped = u .dropped;
-      con0 = u .con0;
-      rxsadr = u .rxsadr;
-      rxeadr = u .rxeadr;
-      rxcnt = u .rxcnt;
-      otcnt = u .otcnt;
-      hrxcnt = u .hrxcnt;
-      since = u .since;
-      wr = u .wr;
-      rpnd = u .rpnd;
-      otpnd = u .otpnd;
-      tpnd = 1;
-      irq = u .irq;
-      place = u .place;
-      count = u .count;
-    })
+txcntWritten u = updated (withPendings u (u .rpnd) (u .otpnd) 1 (u .irq))
 
 -- a chip reset: as at power-on, but for the queue with its deadline and the bytes lost
 abbrev pub chipReset : Uart → Uart

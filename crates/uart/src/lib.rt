@@ -84,6 +84,9 @@ pub struct Received {
 // The most bytes waiting behind the jack: a second of them.
 pub const QUEUE_BYTES: u32 = 3125;
 
+// The same as a length.
+pub const QUEUE_LEN: usize = QUEUE_BYTES as usize;
+
 impl Uart {
     pub fn new() -> Self
         ensures { λ r. ⌜ r ≡ uartNew ⌝ }

@@ -1,6 +1,6 @@
 use Rattle.board.specs.Calls.{countedOf}
-use Rattle.reads.specs.Reads.{polledOf}
-use Rattle.reads.proofs.Kept.{poll-kept}
+use Rattle.regs.specs.Reads.{polledOf}
+use Rattle.regs.proofs.ReadsKept.{poll-kept}
 use borrow.Author.Tests.{lt-ltb, le-ltb}
 use mathlib.Core.Path.{sym}
 use borrow.Author.Needs.{needs}

@@ -1,5 +1,5 @@
 use Rattle.board.proofs.Polls.{read-turned, read-plain, read-polled}
-use Rattle.guard.proofs.Known.{lent}
+use Rattle.board_guard.proofs.Known.{lent}
 use Rattle.state.proofs.Held.{typed}
 use Rattle.state.proofs.Facts.{whole-facts}
 use mathlib.Core.Path.{sym, _∙_}

@@ -1,5 +1,5 @@
 use Rattle.board.specs.Calls.{writeCall, writeFirst, writeSecond}
-use Rattle.guard.proofs.Known.{lent}
+use Rattle.board_guard.proofs.Known.{lent}
 use Rattle.state.proofs.Held.{typed}
 use Rattle.state.proofs.Facts.{whole-facts}
 use borrow.Author.Tests.{eq-eqb, ne-eqb}

@@ -1,6 +1,6 @@
 use Rattle.driver.proofs.New.{fresh, one-fewer}
-use Rattle.turns.specs.Held.{heldOf}
-use Rattle.carry.specs.Carry.{benchOf, BenchOk}
+use Rattle.driver_turns.specs.Held.{heldOf}
+use Rattle.driver_carry.specs.Carry.{benchOf, BenchOk}
 use mathlib.Core.Path.{sym, _∙_}
 use borrow.Author.Needs.{needs}
 use Rattle.driver.proofs.run.Statement.{statement}

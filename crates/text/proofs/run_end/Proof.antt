@@ -9,10 +9,10 @@ use Rattle.text.proofs.run_end.Statement.{statement}
 use Rattle.text.proofs.run_end.Tie as tie
 
 abbrev Inv-loop : tie.InvT-loop
-Inv-loop line at spaces i₀ i = runEnd spaces line i ≡ runEnd spaces line at
+Inv-loop line at mark marks i₀ i = runEnd mark marks line i ≡ runEnd mark marks line at
 
 abbrev μ-loop : tie.MeasureT-loop
-μ-loop line at spaces i₀ i = length line - i
+μ-loop line at mark marks i₀ i = length line - i
 
 loop-holds : tie.Need-loop-holds Inv-loop μ-loop
 loop-holds c = refl
@@ -21,7 +21,7 @@ shared-slice-read-if1 : tie.Need-shared-slice-read-if1 Inv-loop μ-loop
 shared-slice-read-if1 c = search needs
 
 returns : tie.Need-returns Inv-loop μ-loop
-returns c = run-stops (c .before .before .before .before .args .spaces) (c .before .before .before .before .args .line .now) (c .before .before .before .loop .i) (c .before .before .loop-test .taken) (not-true _ (c .if1 .taken)) ∙ c .before .before .before .loop .inv
+returns c = run-stops (c .before .before .before .before .args .mark) (c .before .before .before .before .args .marks) (c .before .before .before .before .args .line .now) (c .before .before .before .loop .i) (c .before .before .loop-test .taken) (not-true _ (c .if1 .taken)) ∙ c .before .before .before .loop .inv
 
 add-i : tie.Need-add-i Inv-loop μ-loop
 add-i c = search needs
@@ -30,10 +30,10 @@ loop-less : tie.Need-loop-less Inv-loop μ-loop
 loop-less c = search needs
 
 loop-again : tie.Need-loop-again Inv-loop μ-loop
-loop-again c = run-more (c .before .before .before .before .args .spaces) (c .before .before .before .before .args .line .now) (c .before .before .before .loop .i) (c .before .before .loop-test .taken) (not-false _ (c .if1 .left)) ∙ c .before .before .before .loop .inv
+loop-again c = run-more (c .before .before .before .before .args .mark) (c .before .before .before .before .args .marks) (c .before .before .before .before .args .line .now) (c .before .before .before .loop .i) (c .before .before .loop-test .taken) (not-false _ (c .if1 .left)) ∙ c .before .before .before .loop .inv
 
 returns-2 : tie.Need-returns-2 Inv-loop μ-loop
-returns-2 c = run-done (c .before .before .args .spaces) (c .before .before .args .line .now) (c .before .loop .i) (c .loop-test .left) ∙ c .before .loop .inv
+returns-2 c = run-done (c .before .before .args .mark) (c .before .before .args .marks) (c .before .before .args .line .now) (c .before .loop .i) (c .loop-test .left) ∙ c .before .loop .inv
 
 pub run-end-spec : {M : Type 1} → statement M
 run-end-spec =

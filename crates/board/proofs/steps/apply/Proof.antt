@@ -1,5 +1,5 @@
 use Rattle.board.specs.Steps.{applyRefused, applyCall, applyQueue}
-use Rattle.guard.proofs.Known.{known}
+use Rattle.board_guard.proofs.Known.{known}
 use Rattle.state.proofs.Held.{typed}
 use borrow.Author.Tests.{eq-eqb, ne-eqb, le-leb, lt-leb}
 use native.Mathlib.Omega.{arith}

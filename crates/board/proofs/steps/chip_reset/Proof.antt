@@ -1,5 +1,5 @@
 use Rattle.board.specs.Steps.{resetCall, resetFirst, resetSecond}
-use Rattle.guard.proofs.Known.{lent}
+use Rattle.board_guard.proofs.Known.{lent}
 use borrow.Author.Tests.{eq-eqb, ne-eqb}
 use mathlib.Core.Path.{sym}
 use borrow.Author.Needs.{needs}

@@ -1,4 +1,4 @@
-use Rattle.edge.specs.Edge.{ofId}
+use Rattle.capi_answers.specs.Edge.{ofId}
 use mathlib.Core.Path.{_∙_, ap}
 use borrow.Author.Needs.{needs}
 use Rattle.capi.proofs.calls.fm1_key_id.Statement.{statement}

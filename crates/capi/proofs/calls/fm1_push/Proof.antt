@@ -8,15 +8,12 @@ action-of-requires c κs = search needs
 push-requires : tie.Need-push-requires
 push-requires c κs = search needs
 
-of-pushing-requires : tie.Need-of-pushing-requires
-of-pushing-requires c κs = search needs
-
 same-length : tie.Need-same-length
 same-length c = search needs
 
 returns : tie.Need-returns
-returns c = (rw (c .of-pushing .ensures, c .before .before .before .push .ensures .0), rw (c .before .before .before .push .ensures .1, c .before .before .before .before .before .action-of .ensures))
+returns c = (rw (c .before .before .push .ensures .0), rw (c .before .before .push .ensures .1, c .before .before .before .before .action-of .ensures))
 
 pub fm1-push-spec : {M : Type 1} → statement M
 fm1-push-spec =
-    tie.close (tie.spec action-of-requires push-requires of-pushing-requires same-length returns)
+    tie.close (tie.spec action-of-requires push-requires same-length returns)

@@ -1,4 +1,4 @@
-use Rattle.edge.specs.Edge.{ofReading}
+use Rattle.capi_answers.specs.Edge.{ofReading}
 use mathlib.Core.Path.{_∙_, ap}
 use borrow.Author.Needs.{needs}
 use Rattle.capi.proofs.calls.fm1_read.Statement.{statement}

@@ -1,4 +1,4 @@
-use Rattle.edge.specs.Ports.{ofPortDone}
+use Rattle.capi_answers.specs.Ports.{ofPortDone}
 use mathlib.Core.Path.{_∙_, ap}
 use borrow.Author.Needs.{needs}
 use Rattle.capi.proofs.ports.fm1_port_new.Statement.{statement}

@@ -1,4 +1,0 @@
-pub mod WordsIn
-pub mod Lists
-pub mod Numbers
-pub mod Asks

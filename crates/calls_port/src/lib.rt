@@ -1,0 +1,207 @@
+// The port's calls for `calls`: the port and its register memory, lent, and one that was kept aside with its registers. Writes and resets go through the
+// record that is lent by `&mut`, so that what is compared with the original is that form.
+use line_answer::Answer;
+use line_answer::BYTE;
+use line_answer::HEX;
+use line_answer::NONE;
+use line_answer::RESET;
+use line_answer::SIX;
+use line_answer::SUM;
+use line_answer::WDT;
+use line_answer::flag;
+use line_answer::number;
+use line_answer::pair;
+use line_answer::two;
+use line_ask::Ask;
+use line_ask::PORT_EVENT;
+use line_ask::PORT_KEEP;
+use line_ask::PORT_MS;
+use line_ask::PORT_NEW;
+use line_ask::PORT_READ;
+use line_ask::PORT_REG;
+use line_ask::PORT_RESET;
+use line_ask::PORT_SAME;
+use line_ask::PORT_SNAP;
+use line_ask::PORT_WRITE;
+use p33::Compared;
+use p33::Done;
+use p33::Event;
+use p33::P33;
+use p33::Snap;
+use std::num::wrapping_add_u64;
+ghost use mathlib.Core.Path.{_≡_};
+ghost use mathlib.Core.Bool.{false};
+ghost use Rattle.calls_port.specs.Passing.{isOfPort, passedOn};
+
+pub struct Ports {
+    pub port: P33,
+    pub kept: P33,
+}
+
+pub struct Ported {
+    pub ports: Ports,
+    pub answer: Answer,
+}
+
+// The ports after a line, and its answer: the one given, where the line asks nothing of the port. What a call of the port answers is `p33`'s, whose contracts
+// say it; put together it has no contract here, and is held to the original's answers.
+pub fn on_port(
+    p: Ports,
+    ask: Ask,
+    a: Answer,
+    regs: &mut [u8; 2048],
+    aside: &mut [u8; 2048],
+) -> Ported
+    ensures passed { λ r. ⌜ (isOfPort (ask .call) ≡ false → r ≡ passedOn p a) ⌝ }
+    ensures memory { λ r. ⌜ (isOfPort (ask .call) ≡ false → now (regs .exit) ≡ now (regs .entry)) ⌝ }
+    ensures kept { λ r. ⌜ (isOfPort (ask .call) ≡ false → now (aside .exit) ≡ now (aside .entry)) ⌝ }
+{
+    if is_of_port(ask.call) {
+        return carried(p, ask, regs, aside);
+    }
+    Ported {
+        ports: p,
+        answer: a,
+    }
+}
+
+fn is_of_port(call: usize) -> bool
+    ensures { λ r. ⌜ r ≡ isOfPort call ⌝ }
+{
+    (PORT_WRITE <= call) & (call <= PORT_RESET)
+}
+
+fn carried(p: Ports, ask: Ask, regs: &mut [u8; 2048], aside: &mut [u8; 2048]) -> Ported {
+    let k = ask.call;
+    match k {
+        PORT_WRITE | PORT_NEW | PORT_RESET => done(p, did(p.port, ask, regs)),
+        PORT_EVENT => event(p),
+        PORT_KEEP => keep(p, regs, aside),
+        _ => Ported {
+            ports: p,
+            answer: looked(p, ask, regs, aside),
+        },
+    }
+}
+
+fn did(port: P33, ask: Ask, regs: &mut [u8; 2048]) -> Done {
+    let k = ask.call;
+    match k {
+        PORT_WRITE => p33::write_through(port, regs, ask.a, ask.v),
+        PORT_RESET => p33::chip_reset_through(port, regs, ask.b),
+        _ => P33::new(regs),
+    }
+}
+
+fn done(mut p: Ports, d: Done) -> Ported {
+    let port = d.port;
+    p.port = port;
+    Ported {
+        ports: p,
+        answer: number(d.refused as u64),
+    }
+}
+
+// The port copied aside.
+fn keep(mut p: Ports, regs: &[u8; 2048], aside: &mut [u8; 2048]) -> Ported {
+    let port = p.port;
+    copy(regs, aside);
+    p.kept = port;
+    Ported {
+        ports: p,
+        answer: number(0),
+    }
+}
+
+fn copy(from: &[u8; 2048], to: &mut [u8; 2048]) {
+    let mut i: usize = 0;
+    while i < 2048 {
+        to[i] = from[i];
+        i = i + 1;
+    }
+}
+
+fn event(mut p: Ports) -> Ported {
+    let port = p.port;
+    let taken = port.take_event();
+    let event = taken.event;
+    let after = taken.port;
+    p.port = after;
+    Ported {
+        ports: p,
+        answer: event_answer(event),
+    }
+}
+
+fn event_answer(event: Event) -> Answer {
+    match event {
+        Event::None => two(NONE, 0, 0),
+        Event::Wdt { fed } => two(WDT, base::when(fed, 1) as u64, 0),
+        Event::Reset => two(RESET, 0, 0),
+    }
+}
+
+// ---- what leaves the port as it is
+
+fn looked(p: Ports, ask: Ask, regs: &[u8; 2048], aside: &[u8; 2048]) -> Answer {
+    let port = p.port;
+    let kept = p.kept;
+    let k = ask.call;
+    match k {
+        PORT_READ => two(HEX, port.read(ask.a) as u64, 0),
+        PORT_REG => reg(regs, (ask.n % 0x1_0000) as u16, ask.m == 1),
+        PORT_MS => number(P33::wdt_ms(ask.b)),
+        PORT_SAME => same(p33::same(port, regs, kept, aside)),
+        PORT_SNAP => snap(port.snap()),
+        _ => two(SUM, sum(regs), 0),
+    }
+}
+
+fn reg(regs: &[u8; 2048], addr: u16, rtc: bool) -> Answer {
+    let found = P33::reg(regs, addr, rtc);
+    pair(found.refused as u32, BYTE, found.value as u64, 0)
+}
+
+fn same(c: Compared) -> Answer {
+    flag(c.refused as u32, c.same)
+}
+
+fn snap(s: Snap) -> Answer {
+    Answer {
+        form: SIX,
+        numbers: [
+            s.0 as u64,
+            s.1 as u64,
+            s.2 as u64,
+            s.3 as u64,
+            s.4 as u64,
+            s.5,
+            0,
+            0,
+            0,
+            0,
+        ],
+    }
+}
+
+// FNV-1a on 64 bits.
+fn sum(regs: &[u8; 2048]) -> u64 {
+    let mut h: u64 = 0xcbf2_9ce4_8422_2325;
+    let mut i: usize = 0;
+    while i < 2048 {
+        h = times_prime(h ^ wide(regs[i]));
+        i = i + 1;
+    }
+    h
+}
+
+fn wide(b: u8) -> u64 {
+    b as u64
+}
+
+// Times 2^40 + 0x1b3, a bit of it at a time: 0x1b3 is 3 * (1 + 16 + 128).
+fn times_prime(h: u64) -> u64 {
+    let three = wrapping_add_u64(h, h << 1);
+    let low = wrapping_add_u64(three, wrapping_add_u64(three << 4, three << 7));
+    wrapping_add_u64(low, h << 40)
+}

@@ -1,0 +1,34 @@
+use lib.Seq.{length-take-le}
+use mathlib.Core.Path.{sym}
+use borrow.Author.Needs.{needs}
+use Rattle.refusals_whole.proofs.lent.applied.Statement.{statement}
+use Rattle.refusals_whole.proofs.lent.applied.Tie as tie
+
+slice-relend-prefix-apply : tie.Need-slice-relend-prefix-apply
+slice-relend-prefix-apply c = search needs
+
+slice-aggregate-apply : tie.Need-slice-aggregate-apply
+slice-aggregate-apply c = sym (length-take-le (c .before .before .before .args .bytes) (c .before .before .before .args .queue .now) (c .before .if1 .taken))
+
+apply-requires : tie.Need-apply-requires
+apply-requires c κs = search needs
+
+same-length : tie.Need-same-length
+same-length c = search needs
+
+returns : tie.Need-returns
+returns c = search needs
+
+returns-2 : tie.Need-returns-2
+returns-2 c = search needs
+
+pub applied-spec : {M : Type 1} → statement M
+applied-spec =
+    tie.close
+    (tie.spec
+    slice-relend-prefix-apply
+    slice-aggregate-apply
+    apply-requires
+    same-length
+    returns
+    returns-2)
