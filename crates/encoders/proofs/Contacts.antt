@@ -2,9 +2,11 @@
 use mathlib.Core.Path.{_≡_}
 use mathlib.Core.Bool.{Bool, true, false, cond}
 use mathlib.Core.List.{List}
-use Prim.Native.Nat.{ℕ, zero, suc, _+_, _*_, _/_, _%_, _≤_, _<_}
+use Prim.Native.Nat.{ℕ, zero, suc, _+_, _*_, _/_, _^_, _≤_, _<_}
+use native.Mathlib.Nat.{div-div-eq-div-mul}
 use native.Mathlib.Omega.{arith}
 use lib.Dec.{eqb}
+use lib.Pow.{pow-add}
 use Rattle.base.specs.Bits.{bitOf}
 use Rattle.encoders.specs.Encoder.{closedBits, contactBits, encsClosed, encOf}
 use Rattle.encoders.specs.declared.Enc.{Enc}
@@ -18,55 +20,31 @@ two-bits s = go (eqb s 1) (eqb s 2) (eqb s 3)
     go false false true = omega arith
     go false false false = omega arith
 
--- the digits of a number to the base four
-module _ (a b c d e f g : ℕ) (ha : a ≤ 3) (hb : b ≤ 3) (hc : c ≤ 3) (hd : d ≤ 3) (he : e ≤ 3) (hf : f ≤ 3) (hg : g ≤ 3) where
-  abbrev all : ℕ
-  all = a + b * 4 + c * 16 + d * 64 + e * 256 + f * 1024 + g * 4096
+-- n numbers of two bits in one, the first lowest
+abbrev packed : (ℕ → ℕ) → ℕ → ℕ
+packed f zero = 0
+packed f (suc n) = f 0 + 4 * packed (λ i. f (suc i)) n
 
-  digit0 : all / 1 % 4 ≡ a
-  digit0 = omega arith
+two-on : (x k : ℕ) → bitOf x (2 + k) ≡ bitOf (x / 4) k
+two-on x k = rw (pow-add 2 2 k, div-div-eq-div-mul x 4 (2 ^ k))
 
-  digit1 : all / 4 % 4 ≡ b
-  digit1 = omega arith
-
-  digit2 : all / 16 % 4 ≡ c
-  digit2 = omega arith
-
-  digit3 : all / 64 % 4 ≡ d
-  digit3 = omega arith
-
-  digit4 : all / 256 % 4 ≡ e
-  digit4 = omega arith
-
-  digit5 : all / 1024 % 4 ≡ f
-  digit5 = omega arith
-
-  digit6 : all / 4096 % 4 ≡ g
-  digit6 = omega arith
+packed-bits : (f : ℕ → ℕ) (n i : ℕ) → ((k : ℕ) → f k ≤ 3) → i < n
+    → (bitOf (packed f n) (i * 2) ≡ bitOf (f i) 0) × (bitOf (packed f n) (i * 2 + 1) ≡ bitOf (f i) 1)
+packed-bits f zero i w h = absurd (omega arith)
+packed-bits f (suc n) zero w h = let low = w 0 in (omega arith, omega arith)
+packed-bits f (suc n) (suc i) w h =
+    let low = w 0 in
+    let p = packed (λ k. f (suc k)) n in
+    let q : (f 0 + 4 * p) / 4 ≡ p = omega arith in
+    let r = packed-bits (λ k. f (suc k)) n i (λ k. w (suc k)) (omega arith) in
+    let a : suc i * 2 ≡ 2 + i * 2 = omega arith in
+    let b : suc i * 2 + 1 ≡ 2 + (i * 2 + 1) = omega arith in
+    (rw (a, two-on (f 0 + 4 * p) (i * 2), q) (r .0), rw (b, two-on (f 0 + 4 * p) (i * 2 + 1), q) (r .1))
 
 -- contact A of encoder i, and contact B
 pub contact-bit : (es : List Enc) (i : ℕ) → i < 7
     → (bitOf (encsClosed es) (i * 2) ≡ bitOf (contactBits es i) 0) × (bitOf (encsClosed es) (i * 2 + 1) ≡ bitOf (contactBits es i) 1)
 unfolding encsClosed
-contact-bit es zero h =
-    let q = digit0 (contactBits es 0) (contactBits es 1) (contactBits es 2) (contactBits es 3) (contactBits es 4) (contactBits es 5) (contactBits es 6) (two-bits (encOf es 0 .state)) (two-bits (encOf es 1 .state)) (two-bits (encOf es 2 .state)) (two-bits (encOf es 3 .state)) (two-bits (encOf es 4 .state)) (two-bits (encOf es 5 .state)) (two-bits (encOf es 6 .state)) in
-    (omega arith, omega arith)
-contact-bit es (suc zero) h =
-    let q = digit1 (contactBits es 0) (contactBits es 1) (contactBits es 2) (contactBits es 3) (contactBits es 4) (contactBits es 5) (contactBits es 6) (two-bits (encOf es 0 .state)) (two-bits (encOf es 1 .state)) (two-bits (encOf es 2 .state)) (two-bits (encOf es 3 .state)) (two-bits (encOf es 4 .state)) (two-bits (encOf es 5 .state)) (two-bits (encOf es 6 .state)) in
-    (omega arith, omega arith)
-contact-bit es (suc (suc zero)) h =
-    let q = digit2 (contactBits es 0) (contactBits es 1) (contactBits es 2) (contactBits es 3) (contactBits es 4) (contactBits es 5) (contactBits es 6) (two-bits (encOf es 0 .state)) (two-bits (encOf es 1 .state)) (two-bits (encOf es 2 .state)) (two-bits (encOf es 3 .state)) (two-bits (encOf es 4 .state)) (two-bits (encOf es 5 .state)) (two-bits (encOf es 6 .state)) in
-    (omega arith, omega arith)
-contact-bit es (suc (suc (suc zero))) h =
-    let q = digit3 (contactBits es 0) (contactBits es 1) (contactBits es 2) (contactBits es 3) (contactBits es 4) (contactBits es 5) (contactBits es 6) (two-bits (encOf es 0 .state)) (two-bits (encOf es 1 .state)) (two-bits (encOf es 2 .state)) (two-bits (encOf es 3 .state)) (two-bits (encOf es 4 .state)) (two-bits (encOf es 5 .state)) (two-bits (encOf es 6 .state)) in
-    (omega arith, omega arith)
-contact-bit es (suc (suc (suc (suc zero)))) h =
-    let q = digit4 (contactBits es 0) (contactBits es 1) (contactBits es 2) (contactBits es 3) (contactBits es 4) (contactBits es 5) (contactBits es 6) (two-bits (encOf es 0 .state)) (two-bits (encOf es 1 .state)) (two-bits (encOf es 2 .state)) (two-bits (encOf es 3 .state)) (two-bits (encOf es 4 .state)) (two-bits (encOf es 5 .state)) (two-bits (encOf es 6 .state)) in
-    (omega arith, omega arith)
-contact-bit es (suc (suc (suc (suc (suc zero))))) h =
-    let q = digit5 (contactBits es 0) (contactBits es 1) (contactBits es 2) (contactBits es 3) (contactBits es 4) (contactBits es 5) (contactBits es 6) (two-bits (encOf es 0 .state)) (two-bits (encOf es 1 .state)) (two-bits (encOf es 2 .state)) (two-bits (encOf es 3 .state)) (two-bits (encOf es 4 .state)) (two-bits (encOf es 5 .state)) (two-bits (encOf es 6 .state)) in
-    (omega arith, omega arith)
-contact-bit es (suc (suc (suc (suc (suc (suc zero)))))) h =
-    let q = digit6 (contactBits es 0) (contactBits es 1) (contactBits es 2) (contactBits es 3) (contactBits es 4) (contactBits es 5) (contactBits es 6) (two-bits (encOf es 0 .state)) (two-bits (encOf es 1 .state)) (two-bits (encOf es 2 .state)) (two-bits (encOf es 3 .state)) (two-bits (encOf es 4 .state)) (two-bits (encOf es 5 .state)) (two-bits (encOf es 6 .state)) in
-    (omega arith, omega arith)
-contact-bit es (suc (suc (suc (suc (suc (suc (suc i))))))) h = absurd (omega arith)
+contact-bit es i h =
+    let q : encsClosed es ≡ packed (contactBits es) 7 = omega arith in
+    rw q (packed-bits (contactBits es) 7 i (λ k. two-bits (encOf es k .state)) h)

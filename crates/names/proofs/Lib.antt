@@ -1,6 +1,7 @@
 pub mod OnAnswers
 pub mod OnBytes
 pub mod OnWords
+pub mod OnRows
 pub mod OnNumbers
 pub mod OnNotes
 pub mod OnPlain

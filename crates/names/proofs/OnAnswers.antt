@@ -20,6 +20,10 @@ module _ {r : Id} where
   pub first-wins : {i : ℕ} (o other : Option ℕ) → r ≡ answer o → r ≡ Of i → r ≡ answer (orElse o other)
   first-wins o other e q = rw (was-some o e q) q
 
+pub or-none : (o : Option ℕ) → orElse o none ≡ o
+or-none (some i) = refl
+or-none none = refl
+
 -- a test that picked an answer, or none
 pub picked-some : (b : Bool) (x : ℕ) {i : ℕ} → cond b (some x) none ≡ some i → (b ≡ true) × (x ≡ i)
 picked-some true x {i} e = (refl, Option·some-injective x i e)

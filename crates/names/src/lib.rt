@@ -1,10 +1,12 @@
 // Names of keys and encoders, as scripts write them, to their ids: `key_id(b"Bb4")` is `Id::Of(31)`, `enc_id(b"select")` is `Id::Of(0)`.
 // Names are bytes in any case; what is no name is `Id::None`, and nothing is refused.
 ghost use mathlib.Core.Path.{_≡_};
-ghost use Prim.Native.Nat.{_+_, _<_, _≤_};
+ghost use mathlib.Core.Bool.{cond};
+ghost use mathlib.Core.Option.{Option, none, some};
+ghost use Prim.Native.Nat.{ℕ, _+_, _<_, _≤_};
 ghost use lib.ListN.{getD, drop};
 ghost use Rattle.names.specs.Ascii.{upper, uppers};
-ghost use Rattle.names.specs.Answers.{answer, andThen};
+ghost use Rattle.names.specs.Answers.{answer, orElse, andThen};
 ghost use Rattle.names.specs.Words.{startsWith, isWord, lookUp};
 ghost use Rattle.names.specs.Numbers.{digits, numberOf, among, numbered};
 ghost use Rattle.names.specs.Midi.{semitoneOf, inOctave, afterLetter, noteNumber, keyOfNumber};
@@ -120,59 +122,37 @@ fn numbered(name: &[u8], prefix: &[u8], count: u8, first: u8) -> Id
     Id::None
 }
 
+// One word more of a table: its id where the name is the word, unless a word before it gave one. The name is asked before what was
+// found: the other way round a lookup executes an eighth more instructions.
+fn or_word(found: Id, name: &[u8], word: &[u8], id: u8) -> Id
+    ensures { λ r. ⌜ ((o : Option ℕ) → found ≡ answer o → r ≡ answer (orElse o (cond (isWord (uppers (now (name .entry))) (now (word .entry))) (some id) none))) ⌝ }
+{
+    if !is(name, word) {
+        return found;
+    }
+    if let Id::Of(_) = found {
+        return found;
+    }
+    Id::Of(id)
+}
+
 fn button(name: &[u8]) -> Id
     ensures { λ r. ⌜ r ≡ answer (lookUp buttons (uppers (now (name .entry)))) ⌝ }
 {
-    if is(name, b"OCTDN") {
-        return Id::Of(0);
-    }
-    if is(name, b"OCTUP") {
-        return Id::Of(1);
-    }
-    if is(name, b"FX") {
-        return Id::Of(2);
-    }
-    if is(name, b"SCL") {
-        return Id::Of(3);
-    }
-    if is(name, b"ENV") {
-        return Id::Of(4);
-    }
-    if is(name, b"LFO") {
-        return Id::Of(5);
-    }
-    if is(name, b"EDIT") {
-        return Id::Of(6);
-    }
-    later_button(name)
-}
-
-// From GLO on: fourteen calls are many for one function's proof.
-fn later_button(name: &[u8]) -> Id
-    ensures { λ r. ⌜ r ≡ answer (lookUp (drop 7 buttons) (uppers (now (name .entry)))) ⌝ }
-{
-    if is(name, b"GLO") {
-        return Id::Of(7);
-    }
-    if is(name, b"HOME") {
-        return Id::Of(8);
-    }
-    if is(name, b"SAVE") {
-        return Id::Of(9);
-    }
-    if is(name, b"ARP") {
-        return Id::Of(10);
-    }
-    if is(name, b"SEQ") {
-        return Id::Of(11);
-    }
-    if is(name, b"PLAY") {
-        return Id::Of(12);
-    }
-    if is(name, b"REC") {
-        return Id::Of(13);
-    }
-    Id::None
+    let found = or_word(Id::None, name, b"OCTDN", 0);
+    let found = or_word(found, name, b"OCTUP", 1);
+    let found = or_word(found, name, b"FX", 2);
+    let found = or_word(found, name, b"SCL", 3);
+    let found = or_word(found, name, b"ENV", 4);
+    let found = or_word(found, name, b"LFO", 5);
+    let found = or_word(found, name, b"EDIT", 6);
+    let found = or_word(found, name, b"GLO", 7);
+    let found = or_word(found, name, b"HOME", 8);
+    let found = or_word(found, name, b"SAVE", 9);
+    let found = or_word(found, name, b"ARP", 10);
+    let found = or_word(found, name, b"SEQ", 11);
+    let found = or_word(found, name, b"PLAY", 12);
+    or_word(found, name, b"REC", 13)
 }
 
 fn semitone(letter: u8) -> Id
@@ -261,34 +241,15 @@ pub fn key_id(name: &[u8]) -> Id
 fn encoder(name: &[u8]) -> Id
     ensures { λ r. ⌜ r ≡ answer (lookUp encoders (uppers (now (name .entry)))) ⌝ }
 {
-    if is(name, b"SELECT") {
-        return Id::Of(0);
-    }
-    if is(name, b"ALGO") {
-        return Id::Of(1);
-    }
-    if is(name, b"ALGORITHM") {
-        return Id::Of(1);
-    }
-    if is(name, b"PRESET") {
-        return Id::Of(6);
-    }
-    if is(name, b"PRESETS") {
-        return Id::Of(6);
-    }
-    if is(name, b"K1") {
-        return Id::Of(2);
-    }
-    if is(name, b"K2") {
-        return Id::Of(3);
-    }
-    if is(name, b"K3") {
-        return Id::Of(4);
-    }
-    if is(name, b"K4") {
-        return Id::Of(5);
-    }
-    Id::None
+    let found = or_word(Id::None, name, b"SELECT", 0);
+    let found = or_word(found, name, b"ALGO", 1);
+    let found = or_word(found, name, b"ALGORITHM", 1);
+    let found = or_word(found, name, b"PRESET", 6);
+    let found = or_word(found, name, b"PRESETS", 6);
+    let found = or_word(found, name, b"K1", 2);
+    let found = or_word(found, name, b"K2", 3);
+    let found = or_word(found, name, b"K3", 4);
+    or_word(found, name, b"K4", 5)
 }
 
 pub fn enc_id(name: &[u8]) -> Id
