@@ -18,7 +18,7 @@ extern "C" {
 /* ---- the refusals; 0 is done */
 #define FM1_CLOCK 1 /* a new board's rate is outside 1,000,000 to 800,000,000 Hz */
 #define FM1_SIZE 2 /* a lent length is not the one named below */
-#define FM1_STATE 3 /* the board's record is not whole, or a flag that came in is neither 0 nor 1 */
+#define FM1_STATE 3 /* the board's record is not whole */
 #define FM1_PARAM 4 /* an SPI, USB, deadline or millisecond number is outside its range */
 #define FM1_FULL 5 /* 256 entries wait in the script */
 #define FM1_COUNT 6 /* a count that the call can raise is 2^62 or more */
@@ -460,7 +460,7 @@ fm1_port_answered_t fm1_port_chip_reset(fm1_port_t p, uint8_t *regs, size_t regs
 /* The event, as `value`; it is taken. */
 fm1_port_answered_t fm1_port_take_event(fm1_port_t p);
 
-/* A register of the main domain, or of the RTC's where `rtc` is 1. SIZE, STATE. */
+/* A register of the main domain, or of the RTC's where `rtc` is not 0. SIZE. */
 fm1_said_t fm1_port_reg(const uint8_t *regs, size_t regs_len, uint16_t addr, uint8_t rtc);
 
 /* Whether two ports are the same. SIZE. */

@@ -56,6 +56,12 @@ class Function:
     def takes_board(self):
         return bool(re.search(r":\s*Board\b", self.parameters))
 
+    def is_of_a_port(self):
+        """a call on one port and its memory, by value, lent, or in C: a case of the port's run"""
+        call = re.sub(r"^fm1_port_|_in_place$|_through$", "", self.plain)
+        port = self.name.startswith("P33::") or self.plain == "fm1_port_reg" or re.search(r":\s*(&mut )?(P33|Port)\b", self.parameters)
+        return call in ("read", "write", "chip_reset", "take_event", "reg") and bool(port)
+
 
 def public_functions(path):
     """every `pub fn` of a file, `extern "C"` or not"""

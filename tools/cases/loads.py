@@ -1,4 +1,6 @@
-"""What tools/measure/bench counts: records for the driver, a kind of work each, and a mix of all."""
+"""What tools/measure/bench counts: records for the driver, a kind of work each, and a mix of all; questions for `asks`."""
+import random
+
 import board
 import driver
 import front
@@ -106,4 +108,17 @@ LOADS = [
     ("keys pressed and released, each pushed and taken by a step", 20_000, keys),
     ("the other four actions, each pushed and taken by a step", 20_000, actions),
     ("all scenes of the comparison mixed", 100_000, mix),
+]
+
+
+def asked(line):
+    """Questions of one kind, from numbers that are drawn."""
+    return lambda n: "".join(line(random.Random(k)) + "\n" for k in range(n)).encode()
+
+
+# 24 MHz times a clock of 2^39 cycles is below 2^64; one of 2^40 is not
+ASKS = [
+    ("`t4`, the product within one word", 20_000, asked(lambda rng: f"t4 {rng.randrange(1 << 39)} {RATE}")),
+    ("`t4`, past it (from 53 minutes on at 240 MHz; the original: u128)", 20_000, asked(lambda rng: f"t4 {rng.randrange(1 << 40, 1 << 53)} {RATE}")),
+    ("`muldiv` by a divisor above 2^40 (a bit a turn; the original: u128)", 20_000, asked(lambda rng: f"muldiv {rng.getrandbits(63)} {rng.getrandbits(63)} {rng.randrange(1 << 40, 1 << 63)}")),
 ]

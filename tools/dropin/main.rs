@@ -14,14 +14,15 @@ fn main() {
     each_line(|line, words| {
         let Some(words) = words else { return };
         lines += 1;
+        let pressed = on.near(words);
         let (theirs, mine) = match words {
             ["step", n] if number(n).is_some() => stepped(&mut on, &mut ours, number(n).unwrap()),
-            _ => (calls::answer(&mut on, words).unwrap_or("?".into()), port::answer(&mut ours, words).unwrap_or("?".into())),
+            _ => (original(&mut on, words).unwrap_or("?".into()), port::answer(&mut ours, words).unwrap_or("?".into())),
         };
         if mine == theirs {
             return;
         }
-        if on.board.near && within_one(&mine, &theirs) {
+        if pressed && within_one(&mine, &theirs) {
             near += 1;
             return;
         }
@@ -40,9 +41,15 @@ fn main() {
     }
 }
 
+/// The original's answer.
+fn original(on: &mut calls::On, words: &[&str]) -> Option<String> {
+    let mut out = Vec::new();
+    calls::answer(on, words, &mut out)?;
+    Some(String::from_utf8(out).unwrap())
+}
+
 /// A step by both, each action that it applied among the answer.
 fn stepped(on: &mut calls::On, ours: &mut port::On, n: u64) -> (String, String) {
-    on.board.near = false;
     let theirs = match on.board.step(n) {
         Err(why) => format!("E {why}"),
         Ok(due) => format!("{} {:?} {:?} {} {} {:?}", on.board.p.cycles, due.audio_half, due.uart_rx, due.usb_frame, due.wdt, due.actions),

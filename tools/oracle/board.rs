@@ -1,10 +1,12 @@
 //! The original's board as document 01 has it: its refusals first, in their order, then the source's own function. What is refused
 //! changes nothing. And the board's lines of `calls`.
 use crate::periph::{inside, Action, Due, Periph};
+use crate::text::Put;
 use crate::words::{byte, decimal, flag, half, hex, number, signed};
 use std::sync::atomic::{AtomicBool, Ordering::Relaxed};
 
-/// Whether conversions of pressed rows are followed, for whoever asks which readings may differ by one. The original does no such thing, so that its count of instructions is its own without it.
+/// Whether conversions of pressed rows are followed, for whoever asks which readings may differ by one, and LEDs' fractions worked out a second time. The original does no such thing, so that its
+/// count of instructions is its own without it.
 pub static FOLLOWED: AtomicBool = AtomicBool::new(false);
 
 const CLOCK: u8 = 1;
@@ -20,14 +22,12 @@ pub struct Board {
     pub p: Periph,
     /// The last conversion was of a pressed row: its value may differ by one from the port's.
     pressed: bool,
-    /// The last read answered such a value.
-    pub near: bool,
 }
 
 impl Board {
     pub fn new(hz: u64) -> Result<Self, u8> {
         refused(CLOCK, !(1_000_000..=800_000_000).contains(&hz))?;
-        Ok(Board { p: inside::at(hz, 0), pressed: false, near: false })
+        Ok(Board { p: inside::at(hz, 0), pressed: false })
     }
 
     pub fn push(&mut self, time: u64, action: Action) -> Result<(), u8> {
@@ -55,8 +55,16 @@ impl Board {
     }
 
     pub fn read(&mut self, addr: u32) -> Result<Option<u32>, u8> {
-        self.near = addr == 0x13104 && self.pressed;
+        // only a count that skips moves the clock
+        if !self.p.skip_idle {
+            return Ok(self.p.read(addr));
+        }
         self.moving(|p| p.read(addr))
+    }
+
+    /// A read of this address now answers a value that may differ by one from the port's.
+    pub fn near(&self, addr: u32) -> bool {
+        addr == 0x13104 && self.pressed
     }
 
     pub fn write(&mut self, addr: u32, v: u32) -> bool {
@@ -111,32 +119,54 @@ fn settable(at: u64) -> bool {
 }
 
 /// The audio half and the byte of a step, or `-`.
-pub fn moved(due: &Due) -> String {
-    let half = due.audio_half.map_or("-".into(), |(addr, words)| format!("{addr:08x}/{words}"));
-    let byte = due.uart_rx.map_or("-".into(), |(addr, b)| format!("{addr:08x}/{b:02x}"));
-    format!("{half} {byte}")
+#[inline]
+pub fn moved(out: &mut impl Put, due: &Due) {
+    match due.audio_half {
+        Some((addr, words)) => out.hex(addr).put(b"/").number(words.into()),
+        None => out.put(b"-"),
+    };
+    match due.uart_rx {
+        Some((addr, b)) => out.put(b" ").hex(addr).put(b"/").byte(b),
+        None => out.put(b" -"),
+    };
 }
 
-pub fn value(v: Option<u32>) -> String {
-    v.map_or("none".into(), |v| format!("{v:08x}"))
+#[inline]
+pub fn value(out: &mut impl Put, v: Option<u32>) {
+    match v {
+        Some(v) => out.hex(v),
+        None => out.put(b"none"),
+    };
 }
 
 /// The result, or `E` and the refusal's number.
-fn result<T>(done: Result<T, u8>, told: impl FnOnce(T) -> String) -> Option<String> {
-    Some(done.map_or_else(|n| format!("E {n}"), told))
+fn result<T>(out: &mut Vec<u8>, done: Result<T, u8>, told: impl FnOnce(&mut Vec<u8>, T)) {
+    match done {
+        Ok(v) => told(out, v),
+        Err(n) => numbered(out.put(b"E "), [n.into()]),
+    }
 }
 
 /// Where the result is itself a refusal's number.
-fn number_of(done: Result<(), u8>) -> Option<String> {
-    Some(done.err().unwrap_or(0).to_string())
+fn number_of(out: &mut Vec<u8>, done: Result<(), u8>) {
+    numbered(out, [done.err().unwrap_or(0).into()]);
 }
 
-fn on(flag: bool) -> Option<String> {
-    Some((flag as u8).to_string())
+/// Numbers with a space between.
+fn numbered<const N: usize>(out: &mut Vec<u8>, numbers: [u64; N]) {
+    for (k, n) in numbers.into_iter().enumerate() {
+        if k > 0 {
+            out.put(b" ");
+        }
+        out.number(n);
+    }
 }
 
-fn choice(found: Option<(u8, u8)>) -> Option<String> {
-    Some(found.map_or("none".into(), |(irq, prio)| format!("{irq} {prio}")))
+fn choice(out: &mut Vec<u8>, found: Option<(u8, u8)>) {
+    match found {
+        Some((irq, prio)) => numbered(out, [irq.into(), prio.into()]),
+        None => value(out, None),
+    }
 }
 
 fn action(words: &[&str]) -> Option<Action> {
@@ -151,7 +181,7 @@ fn action(words: &[&str]) -> Option<Action> {
     })
 }
 
-fn set(p: &mut Periph, name: &str, word: &str) -> Option<String> {
+fn set(p: &mut Periph, name: &str, word: &str) -> Option<()> {
     match name {
         "cycle_ticks" => p.cycle_ticks = number(word)?,
         "skip_idle" => p.skip_idle = flag(word)?,
@@ -161,73 +191,78 @@ fn set(p: &mut Periph, name: &str, word: &str) -> Option<String> {
         "spi2" => p.spi2_pending = flag(word)?,
         _ => return None,
     }
-    Some("0".into())
+    Some(())
 }
 
-fn led(p: &mut Periph) -> String {
-    let (lit, span, _) = inside::led(p);
-    let lights = lit.iter().enumerate().filter(|(_, &t)| t != 0).map(|(id, t)| format!(" {id}:{t}"));
-    format!("{span}{}", lights.collect::<String>())
+fn led(out: &mut Vec<u8>, p: &mut Periph) {
+    let (lit, span, taken) = inside::led(p);
+    if FOLLOWED.load(Relaxed) {
+        assert!(lit.iter().zip(taken).all(|(&t, f)| (t as f32 / span as f32).to_bits() == f.to_bits()), "led_take answers other quotients");
+    }
+    out.number(span);
+    for (id, &t) in lit.iter().enumerate().filter(|(_, &t)| t != 0) {
+        out.put(b" ").number(id as u64).put(b":").number(t);
+    }
 }
 
-fn state(p: &Periph) -> String {
-    let counts = format!("queued {} dropped {} script {}", p.midi_queued(), p.midi_dropped(), p.script.len());
-    let spi1 = format!("wire {} done {}", p.spi1_wire, p.spi1_done_at);
-    format!("clock {} due {} skipped {} halves {} {counts} {spi1} vel {}", p.cycles, p.next_due, p.skipped, p.audio_halves, p.key_vel)
+fn state(out: &mut Vec<u8>, p: &Periph) {
+    out.put(b"clock ").number(p.cycles).put(b" due ").number(p.next_due);
+    out.put(b" skipped ").number(p.skipped).put(b" halves ").number(p.audio_halves);
+    out.put(b" queued ").number(p.midi_queued() as u64).put(b" dropped ").number(p.midi_dropped());
+    out.put(b" script ").number(p.script.len() as u64);
+    out.put(b" wire ").number(p.spi1_wire).put(b" done ").number(p.spi1_done_at);
+    out.put(b" vel ").number(p.key_vel.into());
 }
 
 /// The board's lines; none where the line is no call.
-pub fn answer(b: &mut Board, words: &[&str]) -> Option<String> {
-    let done = Some("0".into());
-    b.near = false;
+pub fn answer(b: &mut Board, words: &[&str], out: &mut Vec<u8>) -> Option<()> {
     match words {
-        ["new", hz] => number_of(Board::new(number(hz)?).map(|made| *b = made)),
-        ["set", name, n] => set(&mut b.p, name, n),
-        ["usb", at, period] => number_of(b.usb(number(at)?, number(period)?)),
-        ["wdt", at] => number_of(b.wdt(number(at)?)),
-        ["push", time, what @ ..] => number_of(b.push(number(time)?, action(what)?)),
-        ["apply", what @ ..] => number_of(b.apply(action(what)?)),
+        ["new", hz] => number_of(out, Board::new(number(hz)?).map(|made| *b = made)),
+        ["set", name, n] => number_of(out, Ok(set(&mut b.p, name, n)?)),
+        ["usb", at, period] => number_of(out, b.usb(number(at)?, number(period)?)),
+        ["wdt", at] => number_of(out, b.wdt(number(at)?)),
+        ["push", time, what @ ..] => number_of(out, b.push(number(time)?, action(what)?)),
+        ["apply", what @ ..] => number_of(out, b.apply(action(what)?)),
         ["read", addr] => {
             let read = b.read(hex(addr)?);
-            let clock = if b.p.skip_idle { format!(" {} {}", b.p.cycles, b.p.skipped) } else { String::new() };
-            result(read, |v| value(v) + &clock)
+            result(out, read, |out, v| {
+                value(out, v);
+                if b.p.skip_idle {
+                    numbered(out.put(b" "), [b.p.cycles, b.p.skipped]);
+                }
+            })
         }
-        ["write", addr, v] => on(b.write(hex(addr)?, hex(v)?)),
+        ["write", addr, v] => numbered(out, [b.write(hex(addr)?, hex(v)?).into()]),
         ["step", n] => {
             let due = b.step(number(n)?);
-            result(due, |due| format!("{} {} {} {} {}", b.p.cycles, moved(&due), due.usb_frame as u8, due.wdt as u8, due.actions.len()))
+            result(out, due, |out, due| {
+                moved(out.number(b.p.cycles).put(b" "), &due);
+                numbered(out.put(b" "), [due.usb_frame.into(), due.wdt.into(), due.actions.len() as u64]);
+            })
         }
-        ["tick"] => result(b.moving(|p| p.tick()), |due| (due as u8).to_string()),
-        ["nexttick"] => on(b.p.next_tick_due()),
-        ["room"] => Some(b.p.tick_room().to_string()),
-        ["ms"] => Some(b.p.ms().to_string()),
-        ["cycles_of", ms] => result(b.cycles_of(number(ms)?), |n| n.to_string()),
+        ["tick"] => result(out, b.moving(|p| p.tick()), |out, due| numbered(out, [due.into()])),
+        ["nexttick"] => numbered(out, [b.p.next_tick_due().into()]),
+        ["room"] => numbered(out, [b.p.tick_room()]),
+        ["ms"] => numbered(out, [b.p.ms()]),
+        ["cycles_of", ms] => result(out, b.cycles_of(number(ms)?), |out, n| numbered(out, [n])),
         ["idle"] => {
             let idled = b.moving(|p| p.idle());
-            result(idled, |_| format!("{} {}", b.p.cycles, b.p.skipped))
+            result(out, idled, |out, _| numbered(out, [b.p.cycles, b.p.skipped]))
         }
         ["spi1", bytes, baud, irq] => {
             let sent = b.spi1(decimal(bytes)?, decimal(baud)?, flag(irq)?);
-            result(sent, |_| format!("{} {}", b.p.spi1_done_at, b.p.spi1_wire))
+            result(out, sent, |out, _| numbered(out, [b.p.spi1_done_at, b.p.spi1_wire]))
         }
-        ["spi2", bytes, baud, irq] => result(b.spi2(decimal(bytes)?, decimal(baud)?, flag(irq)?), |_| "0".into()),
-        ["spi1off"] => {
-            b.p.spi1_irq_off();
-            done
-        }
-        ["srbyte", bits] => {
-            b.p.sr_shift_byte(byte(bits)?);
-            done
-        }
-        ["reset"] => {
-            b.reset();
-            done
-        }
-        ["pending"] => on(b.p.any_pending()),
-        ["irq", core] => choice(b.p.pending_irq_for(decimal(core)?)),
-        ["enabled", core, n] => on(b.p.irq_enabled(decimal(core)?, byte(n)?)),
-        ["led"] => Some(led(&mut b.p)),
-        ["state"] => Some(state(&b.p)),
-        _ => None,
+        ["spi2", bytes, baud, irq] => result(out, b.spi2(decimal(bytes)?, decimal(baud)?, flag(irq)?), |out, _| numbered(out, [0])),
+        ["spi1off"] => number_of(out, Ok(b.p.spi1_irq_off())),
+        ["srbyte", bits] => number_of(out, Ok(b.p.sr_shift_byte(byte(bits)?))),
+        ["reset"] => number_of(out, Ok(b.reset())),
+        ["pending"] => numbered(out, [b.p.any_pending().into()]),
+        ["irq", core] => choice(out, b.p.pending_irq_for(decimal(core)?)),
+        ["enabled", core, n] => numbered(out, [b.p.irq_enabled(decimal(core)?, byte(n)?).into()]),
+        ["led"] => led(out, &mut b.p),
+        ["state"] => state(out, &b.p),
+        _ => return None,
     }
+    Some(())
 }

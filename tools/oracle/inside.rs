@@ -23,16 +23,32 @@ pub mod inside {
         Periph { t5_prd: prd, ..at(hz, 0) }.t5_period()
     }
 
+    thread_local!(static KEPT: std::cell::RefCell<Periph> = Default::default());
+
+    /// A look at a board of this rate and clock, after what it looks at besides was set. The board is kept from one question to the next: to make one would be dearer than the answer.
+    pub fn look<T>(hz: u64, cycles: u64, ask: impl FnOnce(&mut Periph) -> T) -> T {
+        KEPT.with(|kept| {
+            let p = &mut *kept.borrow_mut();
+            (p.hz, p.cycles) = (hz, cycles);
+            ask(p)
+        })
+    }
+
     /// TIMER5's count `into` cycles after its period began, for the longest period.
     pub fn t5_count(hz: u64, into: u64) -> u32 {
-        let mut p = Periph { t5_prd: u32::MAX, t5_con: 1, ..at(hz, 0) };
-        p.t5_next = p.t5_period() - into;
-        p.read(0x10904).unwrap()
+        look(hz, 0, |p| {
+            (p.t5_prd, p.t5_con) = (u32::MAX, 1);
+            p.t5_next = p.t5_period() - into;
+            p.read(0x10904).unwrap()
+        })
     }
 
     /// TIMER4's count `cycles` after its base.
     pub fn t4_count(hz: u64, cycles: u64) -> u32 {
-        Periph { t4_con: 1, ..at(hz, cycles) }.read(0x10804).unwrap()
+        look(hz, cycles, |p| {
+            p.t4_con = 1;
+            p.read(0x10804).unwrap()
+        })
     }
 
     pub fn tmr_cycles_per_count(hz: u64, code: u32) -> u64 {
@@ -85,14 +101,12 @@ pub mod inside {
         p.chip_reset();
     }
 
-    /// Lit cycles and span, and whether their quotients as f32 are what `led_take` answers. To credit twice at one moment changes nothing.
-    pub fn led(p: &mut Periph) -> ([u64; 41], u64, bool) {
+    /// Lit cycles and span, and what `led_take` answers, which are their quotients as f32. To credit twice at one moment changes nothing.
+    pub fn led(p: &mut Periph) -> ([u64; 41], u64, [f32; 41]) {
         p.led_credit();
         p.led_flush();
         let (lit, span) = (p.led_acc, (p.cycles - p.led_since).max(1));
-        let taken = p.led_take();
-        let same = lit.iter().zip(taken).all(|(&l, f)| (l as f32 / span as f32).to_bits() == f.to_bits());
-        (lit, span, same)
+        (lit, span, p.led_take())
     }
 
     // ---- the board

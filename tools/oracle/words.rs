@@ -1,7 +1,8 @@
 //! A line's words as numbers: none where the word is no such number, or does not fit its type.
 
+/// `parse` takes a plus sign, which no number here has.
 pub fn number(word: &str) -> Option<u64> {
-    word.bytes().all(|b| b.is_ascii_digit()).then(|| word.parse().ok())?
+    word.parse().ok().filter(|_| !word.starts_with('+'))
 }
 
 pub fn decimal(word: &str) -> Option<u32> {
@@ -27,7 +28,7 @@ pub fn signed(word: &str) -> Option<i32> {
 
 /// An address or a value.
 pub fn hex(word: &str) -> Option<u32> {
-    (word.len() <= 8 && word.bytes().all(|b| b.is_ascii_hexdigit())).then(|| u32::from_str_radix(word, 16).ok())?
+    u32::from_str_radix(word, 16).ok().filter(|_| word.len() <= 8 && !word.starts_with('+'))
 }
 
 /// Pairs of hex digits, `-` for none.

@@ -5,7 +5,7 @@
 pub const CLOCK: u32 = 1;
 /// a lent length is not the one named below
 pub const SIZE: u32 = 2;
-/// the board's record is not whole, or a flag that came in is neither 0 nor 1
+/// the board's record is not whole
 pub const STATE: u32 = 3;
 /// an SPI, USB, deadline or millisecond number is outside its range
 pub const PARAM: u32 = 4;
@@ -471,7 +471,7 @@ extern "C" {
     pub fn fm1_port_chip_reset(p: Port, regs: *mut u8, regs_len: usize, cause: u8) -> PortAnswered;
     /// The event, as `value`; it is taken.
     pub fn fm1_port_take_event(p: Port) -> PortAnswered;
-    /// A register of the main domain, or of the RTC's where `rtc` is 1. SIZE, STATE.
+    /// A register of the main domain, or of the RTC's where `rtc` is not 0. SIZE.
     pub fn fm1_port_reg(regs: *const u8, regs_len: usize, addr: u16, rtc: u8) -> Said;
     /// Whether two ports are the same. SIZE.
     pub fn fm1_port_same(a: Port, regs_a: *const u8, regs_a_len: usize, b: Port, regs_b: *const u8, regs_b_len: usize) -> Said;

@@ -144,3 +144,50 @@ fn a_port_refuses_lengths_and_counts() {
         }
     }
 }
+
+/// An event's number above 3 is read as none, and a call that is turned away hands it back all the same.
+#[test]
+fn a_refused_port_comes_back_as_it_came() {
+    let bytes = |p: &fm1::sys::Port| unsafe { std::slice::from_raw_parts(p as *const _ as *const u8, std::mem::size_of_val(p)).to_vec() };
+    for event in [0, 1, 3, 4, 77, u32::MAX] {
+        let mut port = *Port::new().record();
+        (port.event, port.con, port.dat, port.step, port.cmd, port.addr) = (event, 0x113, 9, 2, 0x80, 0x3ff);
+        for (changed, len, number) in [(1 << 62, PORT_BYTES, COUNT), (5, PORT_BYTES - 1, SIZE)] {
+            port.changed = changed;
+            let mut regs = vec![7u8; len];
+            unsafe {
+                let wrote = fm1_port_write(port, regs.as_mut_ptr(), len, 0x13e08, 0x11);
+                let reset = fm1_port_chip_reset(port, regs.as_mut_ptr(), len, 4);
+                assert_eq!((wrote.said.refused, reset.said.refused), (number, number));
+                assert_eq!((bytes(&wrote.port), bytes(&reset.port)), (bytes(&port), bytes(&port)));
+            }
+            assert_eq!(regs, vec![7u8; len]);
+        }
+    }
+}
+
+/// A flag that comes in is a byte, and any but 0 is yes: nothing is turned away for it.
+#[test]
+fn any_byte_but_0_is_yes() {
+    let board = Board::new(240_000_000).unwrap();
+    let record = *board.record();
+    let mut regs = vec![0u8; PORT_BYTES];
+    regs[0x400 + 5] = 9;
+    for on in 0..=255u8 {
+        let yes = (on != 0) as u8;
+        unsafe {
+            for (given, plain) in [
+                (fm1_set_skip_idle(record, on), fm1_set_skip_idle(record, yes)),
+                (fm1_set_in_isr(record, on), fm1_set_in_isr(record, yes)),
+                (fm1_set_exc_pending(record, on), fm1_set_exc_pending(record, yes)),
+                (fm1_set_spi2_pending(record, on), fm1_set_spi2_pending(record, yes)),
+                (fm1_spi1_start(record, 1, 1, on), fm1_spi1_start(record, 1, 1, yes)),
+                (fm1_spi2_start(record, 1, 1, on), fm1_spi2_start(record, 1, 1, yes)),
+            ] {
+                assert_eq!((given.refused, without_padding(bytes(&given.board))), (0, without_padding(bytes(&plain.board))));
+            }
+            let said = fm1_port_reg(regs.as_ptr(), regs.len(), 5, on);
+            assert_eq!((said.refused, said.value), (0, if on == 0 { 0 } else { 9 }));
+        }
+    }
+}

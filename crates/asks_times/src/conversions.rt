@@ -28,17 +28,17 @@ pub fn at_rate(k: usize, hz: u32) -> Number
     if hz == 0 {
         return Number::Not;
     }
-    Number::Is(rate_time(k, hz))
+    Number::Is(rate_time(k, hz).0)
 }
 
-fn rate_time(k: usize, hz: u32) -> u64
-    ensures { λ r. ⌜ r ≡ rateTime k hz ⌝ }
+fn rate_time(k: usize, hz: u32) -> Cycles
+    ensures { λ r. ⌜ r .0 ≡ rateTime k hz ⌝ }
 {
     match k {
-        BYTE => times::midi_byte_time(hz).0,
-        PRESS => times::ms_cycles(RampTime::Press, hz).0,
-        RELEASE => times::ms_cycles(RampTime::Release, hz).0,
-        _ => times::ms_cycles(RampTime::Pressure, hz).0,
+        BYTE => times::midi_byte_time(hz),
+        PRESS => times::ms_cycles(RampTime::Press, hz),
+        RELEASE => times::ms_cycles(RampTime::Release, hz),
+        _ => times::ms_cycles(RampTime::Pressure, hz),
     }
 }
 
@@ -76,38 +76,38 @@ fn timed_by(k: usize, n: u64, hz: u32) -> Number
 {
     match k {
         T4 => Number::Is(times::mhz24_of_cycles(Cycles(n), hz).0 as u64),
-        T5_COUNT => timer5_count(n, hz),
-        MS => milliseconds(n, hz),
+        T5_COUNT => timer5_count(Cycles(n), hz),
+        MS => milliseconds(Cycles(n), hz),
         _ => cycles(n, hz),
     }
 }
 
-fn milliseconds(n: u64, hz: u32) -> Number
-    ensures { λ r. ⌜ r ≡ millisecondsOf n hz ⌝ }
+fn milliseconds(c: Cycles, hz: u32) -> Number
+    ensures { λ r. ⌜ r ≡ millisecondsOf (c .0) hz ⌝ }
 {
-    if CLOCK_MAX < n {
+    if CLOCK_MAX < c.0 {
         return Number::Not;
     }
-    Number::Is(times::ms_of_cycles(Cycles(n), hz))
+    Number::Is(times::ms_of_cycles(c, hz))
 }
 
-fn cycles(n: u64, hz: u32) -> Number
-    ensures { λ r. ⌜ r ≡ cyclesIn n hz ⌝ }
+fn cycles(ms: u64, hz: u32) -> Number
+    ensures { λ r. ⌜ r ≡ cyclesIn ms hz ⌝ }
 {
-    if MS_MAX < n {
+    if MS_MAX < ms {
         return Number::Not;
     }
-    Number::Is(times::cycles_of_ms(n, hz).0)
+    Number::Is(times::cycles_of_ms(ms, hz).0)
 }
 
 // The longest period has room for every count below 2^32 - 1.
-fn timer5_count(n: u64, hz: u32) -> Number
-    ensures { λ r. ⌜ r ≡ countIn n hz ⌝ }
+fn timer5_count(c: Cycles, hz: u32) -> Number
+    ensures { λ r. ⌜ r ≡ countIn (c .0) hz ⌝ }
 {
-    if times::cycles_of_mhz6(Mhz6(0xffff_ffff), hz).0 < n {
+    if times::cycles_of_mhz6(Mhz6(0xffff_ffff), hz).0 < c.0 {
         return Number::Not;
     }
-    Number::Is((times::mhz6_of_cycles(Cycles(n), hz).0 % 0xffff_ffff) as u64)
+    Number::Is((times::mhz6_of_cycles(c, hz).0 % 0xffff_ffff) as u64)
 }
 
 // ---- of 32 bits
@@ -125,18 +125,18 @@ fn registered_by(k: usize, n: u32, hz: u32) -> Number
     ensures { λ r. ⌜ r ≡ registeredBy k n hz ⌝ }
 {
     match k {
-        T5 => Number::Is(timer5_period(n, hz)),
+        T5 => Number::Is(timer5_period(Mhz6(n), hz).0),
         COUNT => count(n, hz),
         HALF => half(n, hz),
-        _ => Number::Is(timeout(n, hz)),
+        _ => Number::Is(timeout(UartClocks(n), hz).0),
     }
 }
 
-fn timer5_period(n: u32, hz: u32) -> u64
-    ensures { λ r. ⌜ r ≡ periodOf n hz ⌝ }
+fn timer5_period(n: Mhz6, hz: u32) -> Cycles
+    ensures { λ r. ⌜ r .0 ≡ periodOf (n .0) hz ⌝ }
 {
-    let prd = base::most(n as u64, 1) as u32;
-    base::most(times::cycles_of_mhz6(Mhz6(prd), hz).0, 1)
+    let prd = base::most(n.0 as u64, 1) as u32;
+    Cycles(base::most(times::cycles_of_mhz6(Mhz6(prd), hz).0, 1))
 }
 
 fn count(n: u32, hz: u32) -> Number
@@ -158,9 +158,9 @@ fn half(n: u32, hz: u32) -> Number
     Number::Is(base::most(times::cycles_of_mhz24(Mhz24(counts), hz).0, 1))
 }
 
-fn timeout(n: u32, hz: u32) -> u64
-    ensures { λ r. ⌜ r ≡ timeoutOf n hz ⌝ }
+fn timeout(n: UartClocks, hz: u32) -> Cycles
+    ensures { λ r. ⌜ r .0 ≡ timeoutOf (n .0) hz ⌝ }
 {
-    let wait = times::cycles_of_uart(UartClocks(n), hz).0;
-    base::most(wait, times::midi_byte_time(hz).0)
+    let wait = times::cycles_of_uart(n, hz);
+    Cycles(base::most(wait.0, times::midi_byte_time(hz).0))
 }

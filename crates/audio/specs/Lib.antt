@@ -1,2 +1,3 @@
 pub mod Audio
 pub mod Facts
+pub mod Told

@@ -3,6 +3,7 @@
 use base::NEVER;
 use base::most;
 use base::switched;
+use times::Cycles;
 use times::Mhz24;
 ghost use mathlib.Core.Path.{_≡_};
 ghost use Prim.Native.Nat.{_<_, _≤_, _^_};
@@ -75,13 +76,13 @@ impl Audio {
         most(self.len as u64, 2) as u32
     }
 
-    fn half_period(self, hz: u32) -> u64
+    fn half_period(self, hz: u32) -> Cycles
         requires { ⌜ self .len ≤ 65535 ⌝ }
-        ensures { λ r. ⌜ r ≡ halfPeriod self hz ⌝ }
-        ensures bounded { λ r. ⌜ (0 < r) × (r ≤ 2 ^ 32) ⌝ }
+        ensures { λ r. ⌜ r .0 ≡ halfPeriod self hz ⌝ }
+        ensures bounded { λ r. ⌜ (0 < r .0) × (r .0 ≤ 2 ^ 32) ⌝ }
     {
         let counts = self.words() / 2 * FRAME_T4;
-        most(times::cycles_of_mhz24(Mhz24(counts), hz).0, 1)
+        Cycles(most(times::cycles_of_mhz24(Mhz24(counts), hz).0, 1))
     }
 
     // What the moment makes of it, and the half that it finds finished.
@@ -98,7 +99,7 @@ impl Audio {
         let words = self.words();
         let addr = std::num::wrapping_add_u32(self.adr, (self.half as u32) * words * 4);
         let period = self.half_period(hz);
-        self.next = self.next + period;
+        self.next = self.next + period.0;
         self.halves = std::num::wrapping_add_u64(self.halves, 1);
         self.half = 1 - self.half;
         self.pend = self.pend | pends(self.con1);
@@ -122,7 +123,7 @@ impl Audio {
     {
         let was = self.con0 & 0x800 != 0;
         let on = v & 0x800 != 0;
-        let fresh = now + self.half_period(hz);
+        let fresh = now + self.half_period(hz).0;
         self.half = base::started(was, on, self.half, 0);
         self.next = switched(was, on, self.next, fresh);
         self.con0 = v & 0x7fff;

@@ -92,7 +92,7 @@ fn counted(mut b: Board) -> Reading
     Reading {
         board: b,
         refused: 0,
-        value: Value::Is(n),
+        value: Value::Is(n.0),
     }
 }
 

@@ -287,7 +287,7 @@ pub fn cycle_of_ms(b: Board, ms: u64) -> Number
         };
     }
     Number {
-        value: runner::cycle_of_ms(b.chip, ms),
+        value: runner::cycle_of_ms(b.chip, ms).0,
         refused: 0,
     }
 }

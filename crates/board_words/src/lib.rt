@@ -1,5 +1,6 @@
-// The step and the push for whoever holds the script as plain words, two an entry: its time, and its action as `script::word_of` packs it. Programs do, and so does the boundary to C. Both calls
-// answer for any record and any lent lengths, with the refusals of the same calls over entries; 512 words are a script.
+// A new board, the step and the push for whoever holds the script as plain words, two an entry: its time, and its action as `script::word_of` packs it. Programs do, and so does the boundary to C. The
+// calls answer for any record and any lent lengths, with the refusals of the same calls over entries; 512 words are a script.
+use board::made;
 use board_guard::Done;
 use records::Action;
 use script::Entry;
@@ -15,10 +16,21 @@ use step::placed;
 use step::pushed;
 use step::turned;
 ghost use mathlib.Core.Path.{_≡_};
-ghost use lib.ListN.{getD};
+ghost use lib.ListN.{length, getD};
+ghost use Rattle.board.specs.Steps.{newRefused, newCall, newBank};
 ghost use Rattle.script.specs.Words.{wordOf, wordsAt, placesIn};
 ghost use Rattle.step.specs.Step.{ran, stepOf, pushedOf};
 ghost use Rattle.board_words.specs.Words.{shownIn, spotIn, storedWords};
+
+// A new board at `hz`, with empty queue and script, whose memory it leaves alone; the banks are zeroed.
+pub fn new(hz: u64, queue: &[u8], script: &[u64], icfg: &mut [u32], icfg1: &mut [u32]) -> Done
+    ensures { λ r. ⌜ r ≡ newCall hz (length (now (queue .entry))) (placesIn (now (script .entry))) (length (now (icfg .entry))) (length (now (icfg1 .entry))) ⌝ }
+    ensures first { λ _. ⌜ now (icfg .exit) ≡ newBank (newRefused hz (length (now (queue .entry))) (placesIn (now (script .entry))) (length (now (icfg .entry))) (length (now (icfg1 .entry)))) (now (icfg .entry)) ⌝ }
+    ensures second { λ _. ⌜ now (icfg1 .exit) ≡ newBank (newRefused hz (length (now (queue .entry))) (placesIn (now (script .entry))) (length (now (icfg .entry))) (length (now (icfg1 .entry)))) (now (icfg1 .entry)) ⌝ }
+{
+    let entries = places(script.len());
+    made(hz, queue.len(), entries, icfg, icfg1)
+}
 
 // Past the end stand zeros.
 fn word(script: &[u64], i: usize) -> u64

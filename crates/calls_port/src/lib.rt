@@ -1,5 +1,5 @@
-// The port's calls for `calls`: the port and its register memory, lent, and one that was kept aside with its registers. Writes and resets go through the
-// record that is lent by `&mut`, so that what is compared with the original is that form.
+// The port's calls for `calls`: the port and its register memory, lent, and one that was kept aside with its registers. Writes, resets and taken events go through
+// the record that is lent by `&mut`, so that what is compared with the original is that form.
 use line_answer::Answer;
 use line_answer::BYTE;
 use line_answer::HEX;
@@ -123,7 +123,7 @@ fn copy(from: &[u8; 2048], to: &mut [u8; 2048]) {
 
 fn event(mut p: Ports) -> Ported {
     let port = p.port;
-    let taken = port.take_event();
+    let taken = p33::take_event_through(port);
     let event = taken.event;
     let after = taken.port;
     p.port = after;

@@ -1,12 +1,11 @@
-// The board's calls, each by the name that it has inside with `fm1_` before it, and the names of keys and encoders. Lent memory crosses as a pointer and a length.
-use base::STATE;
+// The board's calls, each by the name that it has inside with `fm1_` before it, and the names of keys and encoders. Lent memory crosses as a pointer and a length, a flag as a byte:
+// 0 is no, any other yes.
 use board::Done;
 use board::Flag;
 use board::Lit;
 use board::Number;
 use board::Ticked;
 use board::Written;
-use board_guard::turned_away;
 use capi_answers::Advanced;
 use capi_answers::Chosen;
 use capi_answers::Reading;
@@ -16,7 +15,6 @@ use capi_answers::of_chosen;
 use capi_answers::of_id;
 use capi_answers::of_reading;
 use script::action_of;
-use script::places;
 use state::Board;
 ghost use mathlib.Core.Path.{_≡_};
 ghost use lib.ListN.{length};
@@ -28,7 +26,7 @@ ghost use Rattle.script.specs.Words.{wordOf, actionOf, wordsAt, placesIn};
 ghost use Rattle.step.specs.Step.{ran, stepOf, pushedOf};
 ghost use Rattle.board_words.specs.Words.{spotIn, storedWords};
 ghost use Rattle.capi_answers.specs.Edge.{ofReading, ofStepped, ofChosen, ofId};
-ghost use Rattle.capi.specs.Flags.{flagged};
+ghost use Rattle.capi.specs.Flags.{isYes};
 
 // ---- making a board, steps, actions, reset
 
@@ -45,8 +43,7 @@ pub extern "C" fn fm1_new(
     ensures first { λ _. ⌜ now (icfg .exit) ≡ newBank (newRefused hz (length (now (queue .entry))) (placesIn (now (script .entry))) (length (now (icfg .entry))) (length (now (icfg1 .entry)))) (now (icfg .entry)) ⌝ }
     ensures second { λ _. ⌜ now (icfg1 .exit) ≡ newBank (newRefused hz (length (now (queue .entry))) (placesIn (now (script .entry))) (length (now (icfg .entry))) (length (now (icfg1 .entry)))) (now (icfg1 .entry)) ⌝ }
 {
-    let entries = places(script.len());
-    board::made(hz, queue.len(), entries, icfg, icfg1)
+    board_words::new(hz, queue, script, icfg, icfg1)
 }
 
 // The step: the clock goes on by `cycles`, and what is due by then is served. SIZE, STATE, COUNT, TIME.
@@ -215,23 +212,17 @@ pub extern "C" fn fm1_led_take(b: Board) -> Lit
 // A transfer on SPI1. STATE, PARAM, COUNT.
 #[no_mangle]
 pub extern "C" fn fm1_spi1_start(b: Board, bytes: u32, baud: u32, irq: u8) -> Done
-    ensures { λ r. ⌜ r ≡ flagged irq b (spi1Call b bytes baud) ⌝ }
+    ensures { λ r. ⌜ r ≡ spi1Call b bytes baud (isYes irq) ⌝ }
 {
-    if 1 < irq {
-        return turned_away(b, STATE);
-    }
-    board::spi1_start(b, bytes, baud, irq == 1)
+    board::spi1_start(b, bytes, baud, irq != 0)
 }
 
 // A transfer on SPI2. STATE, PARAM.
 #[no_mangle]
 pub extern "C" fn fm1_spi2_start(b: Board, bytes: u32, baud: u32, irq: u8) -> Done
-    ensures { λ r. ⌜ r ≡ flagged irq b (spi2Call b bytes baud) ⌝ }
+    ensures { λ r. ⌜ r ≡ spi2Call b bytes baud (isYes irq) ⌝ }
 {
-    if 1 < irq {
-        return turned_away(b, STATE);
-    }
-    board::spi2_start(b, bytes, baud, irq == 1)
+    board::spi2_start(b, bytes, baud, irq != 0)
 }
 
 // SPI1's interrupt off. STATE.
@@ -297,23 +288,17 @@ pub extern "C" fn fm1_set_cycle_ticks(b: Board, ticks: u64) -> Done
 // Whether count reads skip idle time. STATE.
 #[no_mangle]
 pub extern "C" fn fm1_set_skip_idle(b: Board, on: u8) -> Done
-    ensures { λ r. ⌜ r ≡ flagged on b (skipCall b) ⌝ }
+    ensures { λ r. ⌜ r ≡ skipCall b (isYes on) ⌝ }
 {
-    if 1 < on {
-        return turned_away(b, STATE);
-    }
-    board::set_skip_idle(b, on == 1)
+    board::set_skip_idle(b, on != 0)
 }
 
 // Whether an interrupt is being served. STATE.
 #[no_mangle]
 pub extern "C" fn fm1_set_in_isr(b: Board, on: u8) -> Done
-    ensures { λ r. ⌜ r ≡ flagged on b (isrCall b) ⌝ }
+    ensures { λ r. ⌜ r ≡ isrCall b (isYes on) ⌝ }
 {
-    if 1 < on {
-        return turned_away(b, STATE);
-    }
-    board::set_in_isr(b, on == 1)
+    board::set_in_isr(b, on != 0)
 }
 
 // The most cycles that `fm1_tick_room` answers. STATE.
@@ -327,23 +312,17 @@ pub extern "C" fn fm1_set_room_cap(b: Board, cap: u64) -> Done
 // Whether an exception pends. STATE.
 #[no_mangle]
 pub extern "C" fn fm1_set_exc_pending(b: Board, on: u8) -> Done
-    ensures { λ r. ⌜ r ≡ flagged on b (excCall b) ⌝ }
+    ensures { λ r. ⌜ r ≡ excCall b (isYes on) ⌝ }
 {
-    if 1 < on {
-        return turned_away(b, STATE);
-    }
-    board::set_exc_pending(b, on == 1)
+    board::set_exc_pending(b, on != 0)
 }
 
 // Whether SPI2 pends. STATE.
 #[no_mangle]
 pub extern "C" fn fm1_set_spi2_pending(b: Board, on: u8) -> Done
-    ensures { λ r. ⌜ r ≡ flagged on b (spi2FlagCall b) ⌝ }
+    ensures { λ r. ⌜ r ≡ spi2FlagCall b (isYes on) ⌝ }
 {
-    if 1 < on {
-        return turned_away(b, STATE);
-    }
-    board::set_spi2_pending(b, on == 1)
+    board::set_spi2_pending(b, on != 0)
 }
 
 // A USB frame's deadline (all ones: never) and its period. STATE, PARAM.

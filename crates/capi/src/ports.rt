@@ -1,18 +1,16 @@
-// The P33 port's calls. Its record crosses with the event as a number: 0 none, 1 the watchdog's control written, 2 the same with a feed, 3 a reset; any other number is read as none.
-use base::SIZE;
-use base::STATE;
+// The P33 port's calls. Its record crosses with the event as a number: 0 none, 1 the watchdog's control written, 2 the same with a feed, 3 a reset; any other number is read as none. A call that is
+// turned away hands the record back as it came, such a number too.
 use base::when;
 use capi_answers::Port;
 use capi_answers::PortAnswered;
 use capi_answers::Said;
 use capi_answers::ports::of_compared;
 use capi_answers::ports::of_port_done;
+use capi_answers::ports::of_port_new;
 use capi_answers::ports::of_register;
 use capi_answers::ports::of_taken;
 use capi_answers::ports::port_in;
-use capi_answers::told;
 use p33::P33;
-use p33::REGS;
 ghost use mathlib.Core.Path.{_≡_};
 ghost use Rattle.base.specs.Bits.{whenOf};
 ghost use Rattle.times.specs.Watchdog.{wdtMs};
@@ -29,16 +27,16 @@ ghost use Rattle.p33.specs.P33.{
   writeIn,
 };
 ghost use Rattle.p33.specs.Sameness.{sameSnap, sameOf};
-ghost use Rattle.capi_answers.specs.Ports.{portIn, ofPortDone, ofTaken, ofCompared};
-ghost use Rattle.capi.specs.Flags.{registerOf};
+ghost use Rattle.capi_answers.specs.Ports.{portIn, ofPortNew, ofPortDone, ofTaken, ofRegister, ofCompared};
+ghost use Rattle.capi.specs.Flags.{isYes};
 
 // A port at power-on; its memory is zeroed. SIZE.
 #[no_mangle]
 pub extern "C" fn fm1_port_new(regs: &mut [u8]) -> PortAnswered
-    ensures { λ r. ⌜ r ≡ ofPortDone (newOf (now (regs .entry))) ⌝ }
+    ensures { λ r. ⌜ r ≡ ofPortNew (newOf (now (regs .entry))) ⌝ }
     ensures memory { λ _. ⌜ now (regs .exit) ≡ newIn (now (regs .entry)) ⌝ }
 {
-    of_port_done(P33::new(regs))
+    of_port_new(P33::new(regs))
 }
 
 // CON or DAT.
@@ -53,19 +51,19 @@ pub extern "C" fn fm1_port_read(p: Port, addr: u32) -> u32
 // A write to CON or DAT. SIZE, COUNT.
 #[no_mangle]
 pub extern "C" fn fm1_port_write(p: Port, regs: &mut [u8], addr: u32, value: u32) -> PortAnswered
-    ensures { λ r. ⌜ (r ≡ ofPortDone (writeOf (portIn p) (now (regs .entry)) addr value)) × (now (regs .exit) ≡ writeIn (portIn p) (now (regs .entry)) addr value) ⌝ }
+    ensures { λ r. ⌜ (r ≡ ofPortDone p (writeOf (portIn p) (now (regs .entry)) addr value)) × (now (regs .exit) ≡ writeIn (portIn p) (now (regs .entry)) addr value) ⌝ }
 {
     let q = port_in(p);
-    of_port_done(q.write(regs, addr, value))
+    of_port_done(p, q.write(regs, addr, value))
 }
 
 // A chip reset and its cause. SIZE, COUNT.
 #[no_mangle]
 pub extern "C" fn fm1_port_chip_reset(p: Port, regs: &mut [u8], cause: u8) -> PortAnswered
-    ensures { λ r. ⌜ (r ≡ ofPortDone (resetOf (portIn p) (now (regs .entry)))) × (now (regs .exit) ≡ resetIn (portIn p) (now (regs .entry)) cause) ⌝ }
+    ensures { λ r. ⌜ (r ≡ ofPortDone p (resetOf (portIn p) (now (regs .entry)))) × (now (regs .exit) ≡ resetIn (portIn p) (now (regs .entry)) cause) ⌝ }
 {
     let q = port_in(p);
-    of_port_done(q.chip_reset(regs, cause))
+    of_port_done(p, q.chip_reset(regs, cause))
 }
 
 // The event, as `value`; it is taken.
@@ -77,18 +75,12 @@ pub extern "C" fn fm1_port_take_event(p: Port) -> PortAnswered
     of_taken(q.take_event())
 }
 
-// A register of the main domain, or of the RTC's where `rtc` is 1. SIZE, STATE.
+// A register of the main domain, or of the RTC's where `rtc` is not 0. SIZE.
 #[no_mangle]
 pub extern "C" fn fm1_port_reg(regs: &[u8], addr: u16, rtc: u8) -> Said
-    ensures { λ r. ⌜ r ≡ registerOf (now (regs .entry)) addr rtc ⌝ }
+    ensures { λ r. ⌜ r ≡ ofRegister (regOf (now (regs .entry)) addr (isYes rtc)) ⌝ }
 {
-    if regs.len() != REGS {
-        return told(0, SIZE, 0);
-    }
-    if 1 < rtc {
-        return told(0, STATE, 0);
-    }
-    of_register(P33::reg(regs, addr, rtc == 1))
+    of_register(P33::reg(regs, addr, rtc != 0))
 }
 
 // Whether two ports are the same. SIZE.

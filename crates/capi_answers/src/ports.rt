@@ -13,6 +13,7 @@ ghost use Rattle.capi_answers.specs.Ports.{
   eventOf,
   portIn,
   portOut,
+  ofPortNew,
   ofPortDone,
   ofTaken,
   ofRegister,
@@ -83,14 +84,27 @@ pub fn port_out(p: P33) -> Port
     }
 }
 
-pub fn of_port_done(d: p33::Done) -> PortAnswered
-    ensures { λ r. ⌜ r ≡ ofPortDone d ⌝ }
+pub fn of_port_new(d: p33::Done) -> PortAnswered
+    ensures { λ r. ⌜ r ≡ ofPortNew d ⌝ }
 {
     let p = d.port;
     PortAnswered {
         port: port_out(p),
         said: told(0, d.refused as u32, 0),
     }
+}
+
+// Where the call was turned away, the port `given` as it came: its event may be a number that `port_in` reads as none.
+pub fn of_port_done(given: Port, d: p33::Done) -> PortAnswered
+    ensures { λ r. ⌜ r ≡ ofPortDone given d ⌝ }
+{
+    if d.refused != 0 {
+        return PortAnswered {
+            port: given,
+            said: told(0, d.refused as u32, 0),
+        };
+    }
+    of_port_new(d)
 }
 
 pub fn of_taken(t: p33::Taken) -> PortAnswered

@@ -1,1 +1,3 @@
 pub mod New
+pub mod Feeding
+pub mod Streaming

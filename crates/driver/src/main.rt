@@ -1,19 +1,17 @@
 // Document 01's driver: records from standard input, carried out on a new 240 MHz board, a line each on standard output. It ends with its input, or with `X` at a record that is broken or cut
-// off. Input streams through one buffer, so that its length does not matter, and lines wait in another. What a record does is `driver_carry`, its line is `driver_lines`; here they are put together. The loop
-// knows its board whole (`BenchOk`), so that `driver_known` carries records out and tests nothing. The chip is a variable and the panel's arrays stay in theirs, so that no record copies the board.
+// off. Input streams through one buffer, so that its length does not matter, and lines wait in another. What is printed for the bytes that were read is `driver_records` (`driverLines` for all of
+// them); here they are read and the lines written. The loop knows its board whole (`BenchOk`), so that records are carried out and nothing tested. The chip is a variable and the panel's arrays stay
+// in theirs, so that no record copies the board.
 mod stream;
 
 use board_guard::BANK_WORDS;
-use driver_carry::Answer;
-use driver_known::carried;
-use driver_lines::put_line;
+use driver_records::put_lines;
 use script::SCRIPT_LEN;
 use script::SCRIPT_WORDS;
 use step::OUT_BYTES;
-use stream::Stream;
 use stream::fed;
-use stream::find;
 use stream::passed;
+use stream::unread;
 use text::first;
 use uart::QUEUE_LEN;
 ghost use mathlib.Core.Path.{_≡_};
@@ -22,8 +20,8 @@ ghost use Rattle.uart.specs.Uart.{queueBytes};
 
 const RATE: u64 = 240_000_000;
 
-// Lines that wait are written out while there is still room for one more.
-const FULL: usize = 65536 - 128;
+// Turns, of which each passes at most a buffer: 2^63 bytes of input are more than can be read.
+const TURNS: usize = 0x8000_0000_0000;
 
 fn main() {
     let mut input = [0u8; 65536];
@@ -44,17 +42,17 @@ fn main() {
     );
 }
 
-// Every record of the input.
+// Reads, has the lines put, writes them, until they end.
 fn run(
-    input: &mut [u8; 65536],
-    out: &mut [u8; 65536],
+    input: &mut [u8],
+    out: &mut [u8],
     queue: &mut [u8],
     script: &mut [u64],
     icfg: &mut [u32],
     icfg1: &mut [u32],
     acts: &mut [u8],
 )
-    requires { ⌜ (length (now queue) ≡ queueBytes) × (length (now script) ≡ 512) × (length (now icfg) ≡ 32) × (length (now icfg1) ≡ 32) × (length (now acts) ≡ 4352) ⌝ }
+    requires { ⌜ (length (now input) ≡ 65536) × (length (now out) ≡ 65536) × (length (now queue) ≡ queueBytes) × (length (now script) ≡ 512) × (length (now icfg) ≡ 32) × (length (now icfg1) ≡ 32) × (length (now acts) ≡ 4352) ⌝ }
 {
     let b = board::made(RATE, QUEUE_LEN, SCRIPT_LEN, icfg, icfg1).board;
     let mut c = b.chip;
@@ -65,14 +63,15 @@ fn run(
     let mut toward = b.panel.ramps.to;
     let mut values = b.panel.values;
     let mut s = stream::start();
-    let mut to: usize = 0;
-    let mut turns = u64::MAX;
+    let mut turns = TURNS;
     while 0 < turns {
         turns = turns - 1;
         s = fed(input, s);
-        let found = find(input, s);
-        s = passed(s, found);
-        let o = carried(
+        let w = put_lines(
+            unread(input, s),
+            s.base,
+            s.last,
+            out,
             c,
             &mut acc,
             &mut t0,
@@ -80,48 +79,22 @@ fn run(
             &mut from,
             &mut toward,
             &mut values,
-            found,
             queue,
             script,
             icfg,
             icfg1,
             acts,
         );
-        let d = o.chip;
+        let d = w.chip;
         c = d;
-        let answer = o.answer;
-        if ends(answer) {
+        flush(out, w.put);
+        s = passed(s, w.passed);
+        if w.ended {
             turns = 0;
-            to = told(out, to, answer);
-        } else {
-            to = told(out, to, answer);
         }
     }
-    flush(out, to);
 }
 
-fn told(out: &mut [u8; 65536], to: usize, a: Answer) -> usize {
-    let from = flushed(out, to);
-    put_line(out, from, a)
-}
-
-fn flushed(out: &[u8; 65536], to: usize) -> usize {
-    if FULL < to {
-        flush(out, to);
-        return 0;
-    }
-    to
-}
-
-fn flush(out: &[u8; 65536], n: usize) {
+fn flush(out: &[u8], n: usize) {
     io::write_all(libc::STDOUT_FILENO, first(out, n));
-}
-
-// Nothing comes after a record that is broken, or after the last.
-fn ends(a: Answer) -> bool {
-    match a {
-        Answer::Broken { at: _ } => true,
-        Answer::Nothing => true,
-        _ => false,
-    }
 }

@@ -6,6 +6,7 @@ use Prim.Native.Nat.{ℕ, zero, suc, _-_, _/_, _<_, _^_}
 use lib.Dec.{eqb, leb}
 use lib.ListN.{length, length-set}
 use borrow.Author.Tests.{leb-false}
+use Rattle.base.proofs.Cases.{either}
 use Rattle.board.proofs.Kept.{read-call-kept, write-call-kept}
 use Rattle.board.specs.Calls.{readCall, readChip, readRefused, writeCall, writeFirst, writeSecond}
 use Rattle.board_guard.specs.Refusals.{banksRefused}
@@ -29,11 +30,6 @@ use Rattle.board_words.specs.Words.{shownIn, spotIn, storedWords}
 use Rattle.driver_carry.specs.Carry.{Bench, Agrees, BenchOk, pushed, after}
 use Rattle.driver_carry.proofs.Agreed.{step-agreed, polled-script, written-script, push-agreed}
 use Rattle.driver_carry.proofs.Calls.{spot-full, spot-room}
-
--- what holds in both cases holds in either
-either : {A : Type 0} (P : A → Type 0) (t : Bool) (x y : A) → P x → P y → P (cond t x y)
-either P true x y p q = p
-either P false x y p q = q
 
 -- a written bank is as long as it was
 pub first-length : (bank : List ℕ) (addr v : ℕ) → length (firstWritten bank addr v) ≡ length bank

@@ -111,7 +111,7 @@ fn turn_in(
     requires { ⌜ (i < 41) × RampsShort (rampsOf (t0 .now) (dur .now) (from .now) (to .now)) ⌝ }
     ensures { λ _. ⌜ rampsOf (t0 .exit .now) (dur .exit .now) (from .exit .now) (to .exit .now) ≡ turnedRamps (rampsOf (t0 .entry .now) (dur .entry .now) (from .entry .now) (to .entry .now)) i now force time hz ⌝ }
 {
-    let r = ramp_at(t0, dur, from, to, i).turned(now, force, ms_cycles(time, hz).0);
+    let r = ramp_at(t0, dur, from, to, i).turned(now, force, ms_cycles(time, hz));
     t0[i] = r.t0;
     dur[i] = r.dur as u32;
     from[i] = r.from;

@@ -1,5 +1,6 @@
 pub mod Ascii
 pub mod Answers
+pub mod Told
 pub mod Words
 pub mod Numbers
 pub mod Midi

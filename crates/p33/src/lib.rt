@@ -543,3 +543,14 @@ pub fn chip_reset_through(p: P33, regs: &mut [u8], cause: u8) -> Done
         port: q,
     }
 }
+
+pub fn take_event_through(p: P33) -> Taken
+    ensures { λ r. ⌜ r ≡ takenOf p ⌝ }
+{
+    let mut q = p;
+    let event = take_event_in_place(&mut q);
+    Taken {
+        event: event,
+        port: q,
+    }
+}

@@ -8,6 +8,7 @@ use native.Mathlib.Omega.{arith}
 use borrow.Author.Tests.{ltb-true}
 use lib.Dec.{eqb, ltb}
 use lib.ListN.{length}
+use Rattle.base.proofs.Cases.{either}
 use Rattle.base.specs.Moments.{never}
 use Rattle.base.specs.Ring.{ring}
 use Rattle.board_guard.specs.Answers.{answered}
@@ -40,7 +41,6 @@ use Rattle.timers.specs.Timer4.{pollOf, streakOf}
 use Rattle.uart.specs.Uart.{queueBytes, con0Written, txcntWritten, updated}
 use Rattle.uart.specs.declared.Uart.{Uart}
 use Rattle.promises.specs.Midi.{partOf}
-use Rattle.promises.proofs.Either.{either}
 
 -- what of a board the MIDI part reads, and its rate
 pub record Jack : Type 0 where

@@ -7,6 +7,7 @@ use native.Mathlib.Omega.{arith}
 use borrow.Author.Tests.{eqb-true}
 use lib.Dec.{eqb}
 use lib.ListN.{length}
+use Rattle.base.proofs.Cases.{unsaid}
 use Rattle.base.specs.Ring.{ring}
 use Rattle.board_guard.proofs.Known.{no}
 use Rattle.board_guard.specs.Answers.{turnedOf}
@@ -27,10 +28,9 @@ use Rattle.times.specs.Clocks.{byteTime}
 use Rattle.uart.proofs.Queue.{queue-length}
 use Rattle.uart.specs.Uart.{queueBytes, receives}
 use Rattle.promises.specs.Midi.{partOf, part, midiOf, Effect, steps, acts, moves, none, effectOf, offeredIn, offeredBy, stepsBy, offers, byteTimeNow, actsIn, actsOf, Promise, EveryRun}
-use Rattle.promises.specs.Run.{Held, Call, advance, apply, push, read, write, «chip_reset», tick, «tick_room», «next_tick_due», idle, «any_pending», «irq_enabled», «pending_irq», «pending_irq_for», «led_take», «spi1_start», «spi2_start», «spi1_irq_off», «sr_shift_byte», ms, «cycle_of_ms», «midi_queued», «midi_dropped», «set_cycle_ticks», «set_skip_idle», «set_in_isr», «set_room_cap», «set_exc_pending», «set_spi2_pending», «set_usb», «set_wdt», stepped, made, exec}
+use Rattle.promises.specs.Run.{Held, Call, advance, apply, push, read, write, «chip_reset», tick, «tick_room», «next_tick_due», idle, «any_pending», «irq_enabled», «pending_irq», «pending_irq_for», «led_take», «spi1_start», «spi2_start», «spi1_irq_off», «sr_shift_byte», ms, «cycle_of_ms», «midi_queued», «midi_dropped», «set_cycle_ticks», «set_skip_idle», «set_in_isr», «set_room_cap», «set_exc_pending», «set_spi2_pending», «set_usb», «set_wdt», stepped, madeRefused, made, exec}
 use Rattle.promises.proofs.Bytes.{apply-does}
 use Rattle.promises.proofs.Calls.{Jack, Same, Later, stays, goes, tick-later, idle-later, read-later, write-same, reset-same, push-same, led-same, spi1-same, spi2-same, spi1-off-same, shift-same, ticks-same, skip-same, isr-same, cap-same, exc-same, spi2-flag-same, usb-same, wdt-same}
-use Rattle.promises.proofs.Either.{unsaid}
 use Rattle.promises.proofs.Entries.{applied-rate}
 use Rattle.promises.proofs.Steps.{step-does, step-rate, step-offered, offers-given, offers-at}
 use Rattle.promises.proofs.Whole.{new-call-whole, calls-keep-whole}
@@ -117,7 +117,7 @@ fits («set_wdt» at) s w = quiet s (exec («set_wdt» at) s .board) (wdt-same (
 
 -- ---- what is offered, and the byte times
 
-effect-offered : (e : Effect) (s s′ : Held) → offeredIn e s ≡ offered (actsIn e s s′)
+pub effect-offered : (e : Effect) (s s′ : Held) → offeredIn e s ≡ offered (actsIn e s s′)
 unfolding offered
 effect-offered (steps cycles out) s s′ =
     step-offered (s .board) cycles (s .script) (s .places) (s .queue) out (byteTimeNow s) (receives (s .board .chip .uart))
@@ -157,10 +157,10 @@ offered-all (k ∷ l) s =
 -- ---- the promise
 
 module _ (hz : ℕ) where
-  keeps : (k : Call) (s : Held) → Good hz s → Good hz (exec k s)
+  pub keeps : (k : Call) (s : Held) → Good hz s → Good hz (exec k s)
   keeps k s g = record { whole = calls-keep-whole k s (g .whole); rate = fits k s (g .whole) .1 ∙ g .rate }
 
-  does : (k : Call) (s : Held) → Good hz s → Does queueBytes (part s) (part (exec k s)) (stepsBy k s) (actsOf k s)
+  pub does : (k : Call) (s : Held) → Good hz s → Does queueBytes (part s) (part (exec k s)) (stepsBy k s) (actsOf k s)
   does k s g = fits k s (g .whole) .0
 
   steady : (s : Held) → Good hz s → (l : List Call) → Steady (byteTime hz) (gather exec actsOf s l)
@@ -184,9 +184,10 @@ module _ (hz : ℕ) where
         total = rw (offered-all l s, p .answers, ← q) (rw (← p .state) at (p .keep .total));
       }
 
+pub made-good : (hz : ℕ) (m : Held) → madeRefused hz m ≡ 0 → Good hz (made hz m)
+unfolding newCall chipNew
+made-good hz m e = record { whole = new-call-whole hz (length (m .queue)) (m .places) (length (m .icfg)) (length (m .icfg1)) e; rate = rw e refl }
+
 pub every-run : EveryRun
 unfolding newCall chipNew ring
-every-run hz m e l =
-    promised hz (made hz m)
-    (record { whole = new-call-whole hz (length (m .queue)) (m .places) (length (m .icfg)) (length (m .icfg1)) e; rate = rw e refl })
-    0 never (rw e refl) l
+every-run hz m e l = promised hz (made hz m) (made-good hz m e) 0 never (rw e refl) l

@@ -83,3 +83,16 @@ timed-least (suc (suc (suc (suc zero)))) h m = lit≤ tt
 timed-least (suc (suc (suc (suc (suc zero))))) h m = lit≤ tt
 timed-least (suc (suc (suc (suc (suc (suc zero)))))) h m = lit≤ tt
 timed-least (suc (suc (suc (suc (suc (suc (suc k))))))) h m = absurd (omega arith)
+
+-- and at most seventeen
+pub known-longest : {k : ℕ} → Known k → lengthOf k ≤ 17
+unfolding lengthOf
+known-longest is-key = lit≤ tt
+known-longest is-enc = lit≤ tt
+known-longest is-adc = lit≤ tt
+known-longest is-midi = lit≤ tt
+known-longest is-key-vel = lit≤ tt
+known-longest is-pressure = lit≤ tt
+known-longest is-read = lit≤ tt
+known-longest is-write = lit≤ tt
+known-longest is-step = lit≤ tt

@@ -19,37 +19,45 @@ use Rattle.records.proofs.Kept.{Kept, kept, breaks-short}
 use Rattle.records.proofs.RoundTrip.{timed-decodes, order-decodes, any-decodes}
 use Rattle.records.proofs.Inverse.{timed-found, any-found, order-found}
 
--- a record that is found in what is left of the bytes
-passes :
-    (bytes : List ℕ) (at next : ℕ) →
-    Kept (drop at bytes) →
-    next ≡ at + lengthOf (kindIn (drop at bytes)) →
-    (at + 8 ≤ next) × (next ≤ length bytes)
-passes bytes at next k e =
-    let eight = known-least (known (kindIn (drop at bytes)) (k .known)) in
-    let left = length-drop at bytes in
-    let long : lengthOf (kindIn (drop at bytes)) ≤ length (drop at bytes) = rw (k .exact) at (k .long) in
+-- A record that decodes is at least eight bytes long, and all there: of what is left, s, from the offset `at` on.
+passes : (s : List ℕ) (at next : ℕ) → Kept s → next ≡ at + lengthOf (kindIn s) → (at + 8 ≤ next) × (next ≤ at + length s)
+passes s at next k e =
+    let eight = known-least (known (kindIn s) (k .known)) in
+    let long : lengthOf (kindIn s) ≤ length s = rw (k .exact) at (k .long) in
     (omega arith, omega arith)
 
+module _ (s : List ℕ) (at : ℕ) where
+  pub timed-passes : (time next : ℕ) (a : Action) → timedOf s at ≡ Timed time a next → (at + 8 ≤ next) × (next ≤ at + length s)
+  timed-passes time next a e = let f = timed-found s at e in passes s at next (f .kept) (f .next-is)
+
+  pub any-passes : (time next : ℕ) (a : Action) → recordOf s at ≡ AnyTimed time a next → (at + 8 ≤ next) × (next ≤ at + length s)
+  any-passes time next a e = timed-passes time next a (any-found s at (Timed time a next) e)
+
+  pub order-passes : (next : ℕ) (o : Order) → recordOf s at ≡ AnyOrder o next → (at + 8 ≤ next) × (next ≤ at + length s)
+  order-passes next o e = let f = order-found s at e in passes s at next (f .kept) (f .next-is)
+
+-- The same of bytes and a place: it ends within the bytes.
 module _ (bytes : List ℕ) (at : ℕ) where
-  -- A record that decodes is at least eight bytes long, and ends within the bytes.
+  within : (next : ℕ) → (at + 8 ≤ next) × (next ≤ at + length (drop at bytes)) → (at + 8 ≤ next) × (next ≤ length bytes)
+  within next p = let left = length-drop at bytes in (p .0, omega arith)
+
   pub timed-next :
       (time next : ℕ) (a : Action) →
       timedOf (drop at bytes) at ≡ Timed time a next →
       (at + 8 ≤ next) × (next ≤ length bytes)
-  timed-next time next a e = let f = timed-found (drop at bytes) at e in passes bytes at next (f .kept) (f .next-is)
+  timed-next time next a e = within next (timed-passes (drop at bytes) at time next a e)
 
   pub any-next :
       (time next : ℕ) (a : Action) →
       recordOf (drop at bytes) at ≡ AnyTimed time a next →
       (at + 8 ≤ next) × (next ≤ length bytes)
-  any-next time next a e = timed-next time next a (any-found (drop at bytes) at (Timed time a next) e)
+  any-next time next a e = within next (any-passes (drop at bytes) at time next a e)
 
   pub order-next :
       (next : ℕ) (o : Order) →
       recordOf (drop at bytes) at ≡ AnyOrder o next →
       (at + 8 ≤ next) × (next ≤ length bytes)
-  order-next next o e = let f = order-found (drop at bytes) at e in passes bytes at next (f .kept) (f .next-is)
+  order-next next o e = within next (order-passes (drop at bytes) at next o e)
 
 broken-cases :
     {at : ℕ} (z b : Bool) (x : ℕ) (y : Action) (w here : ℕ) →

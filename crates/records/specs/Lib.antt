@@ -2,4 +2,5 @@ pub mod Le
 pub mod Layout
 pub mod Decoded
 pub mod Encoded
+pub mod Told
 pub mod Values

@@ -1,17 +1,25 @@
 -- A line's numbers, and the line with what came back.
-use Prim.Native.Nat.{ℕ}
+use Prim.Native.Nat.{ℕ, zero, suc}
 use mathlib.Core.Bool.{cond}
 use mathlib.Core.List.{List, [], _∷_, _++_}
 use lib.Dec.{eqb}
 use Rattle.text.specs.Ascii.{bytes}
 use Rattle.text.specs.Numerals.{decimalIn}
 use Rattle.text.specs.Putting.{decimalOf}
-use Rattle.text.specs.Spans.{bytesIn, wordAt}
+use Rattle.text.specs.Spans.{bytesIn, wordAt, isText}
 use Rattle.text.specs.declared.Number.{Number}
 use Rattle.text.specs.declared.Number.the-variants.{Is, Not}
 use Rattle.text.specs.declared.Span.{Span}
 use Rattle.refusals_lines.specs.declared.Answer.{Answer}
 use Rattle.refusals_lines.specs.declared.Numbers.{Numbers}
+
+-- which of a list's words a name is, of so many from `at` on, counted from 0; as many where it is none of them
+unfoldable pub placeFrom : ℕ → List ℕ → ℕ → List ℕ → ℕ
+placeFrom zero list at name = 0
+placeFrom (suc n) list at name = cond (isText list (wordAt list at) name) 0 (suc (placeFrom n list (wordAt list at .to) name))
+
+abbrev pub placeIn : List ℕ → ℕ → List ℕ → ℕ
+placeIn list most name = placeFrom most list 0 name
 
 -- a number that is not there is 0
 unfoldable pub orNone : Number → ℕ

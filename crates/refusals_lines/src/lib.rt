@@ -11,7 +11,7 @@ ghost use mathlib.Core.List.{_++_};
 ghost use Prim.Native.Nat.{_≤_};
 ghost use lib.ListN.{length};
 ghost use Rattle.text.specs.Putting.{placeAfterAll, putAll, decimalOf};
-ghost use Rattle.refusals_lines.specs.Lines.{numberIn, numbersIn, answerText, lineText};
+ghost use Rattle.refusals_lines.specs.Lines.{placeIn, numberIn, numbersIn, answerText, lineText};
 
 // A line's numbers, in their order.
 pub struct Numbers {
@@ -32,7 +32,8 @@ pub struct Answer {
 
 // Which of the list's words it is, counted from 0; `most` where it is none of so many.
 pub fn place_in(list: &[u8], most: usize, name: &[u8]) -> usize
-    ensures { λ r. ⌜ r ≤ most ⌝ }
+    ensures { λ r. ⌜ r ≡ placeIn (now (list .entry)) most (now (name .entry)) ⌝ }
+    ensures bounded { λ r. ⌜ r ≤ most ⌝ }
 {
     let mut k: usize = 0;
     let mut at: usize = 0;

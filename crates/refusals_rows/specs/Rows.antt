@@ -5,10 +5,20 @@ use mathlib.Core.List.{List, []}
 use lib.Dec.{ltb}
 use lib.ListN.{getD, set, replicate}
 use Rattle.encoders.specs.declared.Enc.{Enc}
+use Rattle.refusals_lines.specs.Lines.{placeIn}
+use Rattle.text.specs.Ascii.{bytes}
 use Rattle.timers.specs.Timer.{tmrNew}
 use Rattle.timers.specs.declared.timer.Tmr.{Tmr}
 
 -- ---- the rows
+
+-- the fields, a row each
+abbrev pub fields : List ℕ
+fields = bytes "hz cycles next_due skipped skip_idle in_isr t4.con t4.base t4.last_cnt_read t4.cnt_streak t5.next tmr.start tmr.next tick.start tick.next audio.next audio.half audio.len spi1_done_at spi1_irq_at spi1_wire spi2_next uart.next uart.ot_next uart.dropped uart.wr uart.rxcnt uart.place uart.count usb_next usb_period wdt_at script.at script.place script.count led_last led_since led_pend enc.next enc.pending enc.state keys.vel exc_pending ramps.t0 ramps.dur ramps.from ramps.to acc"
+
+-- the number of a field's row, 48 where it is no field
+abbrev pub rowOf : List ℕ → ℕ
+rowOf name = placeIn fields 48 name
 
 abbrev pub row : List (List ℕ) → ℕ → List ℕ
 row rows k = getD rows k []

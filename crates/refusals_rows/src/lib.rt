@@ -17,7 +17,7 @@ use timers::Tmr;
 use uart::Uart;
 ghost use mathlib.Core.Path.{_≡_};
 ghost use Prim.Native.Nat.{_≤_};
-ghost use Rattle.refusals_rows.specs.Rows.{row, filled, placed, low as lowOf, tmrFrom, encFrom};
+ghost use Rattle.refusals_rows.specs.Rows.{rowOf, row, filled, placed, low as lowOf, tmrFrom, encFrom};
 
 pub const ROWS: usize = 48;
 
@@ -25,7 +25,8 @@ pub const PLACES: usize = 41;
 
 // The number of a field's row, ROWS where it is no field.
 pub fn row_of(name: &[u8]) -> usize
-    ensures { λ r. ⌜ r ≤ 48 ⌝ }
+    ensures { λ r. ⌜ r ≡ rowOf (now (name .entry)) ⌝ }
+    ensures bounded { λ r. ⌜ r ≤ 48 ⌝ }
 {
     place_in(
         b"hz cycles next_due skipped skip_idle in_isr t4.con t4.base t4.last_cnt_read t4.cnt_streak t5.next tmr.start tmr.next tick.start tick.next audio.next audio.half audio.len spi1_done_at spi1_irq_at spi1_wire spi2_next uart.next uart.ot_next uart.dropped uart.wr uart.rxcnt uart.place uart.count usb_next usb_period wdt_at script.at script.place script.count led_last led_since led_pend enc.next enc.pending enc.state keys.vel exc_pending ramps.t0 ramps.dur ramps.from ramps.to acc",

@@ -1,28 +1,22 @@
 -- Each register reads what the table says.
 use mathlib.Core.List.{List}
-use mathlib.Core.Path.{refl}
-use Prim.Native.Nat.{ℕ}
+use mathlib.Core.Path.{_≡_, refl}
+use Prim.Native.Nat.{ℕ, _+_}
+use Rattle.base.proofs.Cases.{under-four}
 use Rattle.state.specs.declared.Chip.{Chip}
+use Rattle.timers.specs.Timer.{tmrCon, tmrCnt, tmrPrd, tmrOf}
+use Rattle.regs.specs.declared.reads.Value.the-variants.{Is}
 use Rattle.regs.specs.Reads.{tmrRead, t4Read, t5Read, tickRead, audioRead, adcRead, uartRead, portRead, firstRead, secondRead, readOf}
-use Rattle.regs.specs.Registers.{Registers}
+use Rattle.regs.specs.Registers.{tmrPage, Registers}
 
 pub registers : (c : Chip) (icfg icfg1 : List ℕ) → Registers c icfg icfg1
 unfolding readOf tmrRead t4Read t5Read tickRead audioRead adcRead uartRead portRead firstRead secondRead
 registers c icfg icfg1 = record {
   t4-con = refl;
   t4-cnt = refl;
-  tmr0-con = refl;
-  tmr1-con = refl;
-  tmr2-con = refl;
-  tmr3-con = refl;
-  tmr0-cnt = refl;
-  tmr1-cnt = refl;
-  tmr2-cnt = refl;
-  tmr3-cnt = refl;
-  tmr0-prd = refl;
-  tmr1-prd = refl;
-  tmr2-prd = refl;
-  tmr3-prd = refl;
+  tmr-con = under-four (λ (i : ℕ). readOf c icfg icfg1 (tmrPage i) ≡ Is (tmrCon (tmrOf (c .tmr) i))) refl refl refl refl;
+  tmr-cnt = under-four (λ (i : ℕ). readOf c icfg icfg1 (tmrPage i + 4) ≡ Is (tmrCnt (tmrOf (c .tmr) i) (c .clock .cycles) (c .clock .hz))) refl refl refl refl;
+  tmr-prd = under-four (λ (i : ℕ). readOf c icfg icfg1 (tmrPage i + 8) ≡ Is (tmrPrd (tmrOf (c .tmr) i))) refl refl refl refl;
   t5-con = refl;
   t5-cnt = refl;
   t5-prd = refl;

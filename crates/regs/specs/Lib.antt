@@ -1,3 +1,4 @@
 pub mod Reads
 pub mod Registers
 pub mod Writes
+pub mod Told

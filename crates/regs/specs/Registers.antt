@@ -1,5 +1,5 @@
 -- Every word that a read answers, in the order of the original: the address, and what stands there. The banks, by any address of theirs, are `firstRead` and `secondRead`; any other word says none.
-use Prim.Native.Nat.{ℕ}
+use Prim.Native.Nat.{ℕ, _+_, _*_, _<_}
 use mathlib.Core.List.{List}
 use Rattle.adc.specs.Adc.{conRead}
 use Rattle.audio.specs.Audio.{con0Read as audioCon0, con1Read, pendRead, con3Read, adrRead, lenRead}
@@ -15,21 +15,17 @@ use Rattle.regs.specs.declared.reads.Value.the-variants.{Is}
 use mathlib.Core.Path.{_≡_}
 use Rattle.regs.specs.Reads.{rowsOf, readOf}
 
+-- where a timer's words begin
+abbrev pub tmrPage : ℕ → ℕ
+tmrPage i = 0x10400 + 0x100 * i
+
 pub record Registers (c : Chip) (icfg icfg1 : List ℕ) : Type 0 where
   pub t4-con : readOf c icfg icfg1 0x10800 ≡ Is (t4Con (c .t4))
   pub t4-cnt : readOf c icfg icfg1 0x10804 ≡ Is (t4Cnt (c .t4) (c .clock .cycles) (c .clock .hz))
-  pub tmr0-con : readOf c icfg icfg1 0x10400 ≡ Is (tmrCon (tmrOf (c .tmr) 0))
-  pub tmr1-con : readOf c icfg icfg1 0x10500 ≡ Is (tmrCon (tmrOf (c .tmr) 1))
-  pub tmr2-con : readOf c icfg icfg1 0x10600 ≡ Is (tmrCon (tmrOf (c .tmr) 2))
-  pub tmr3-con : readOf c icfg icfg1 0x10700 ≡ Is (tmrCon (tmrOf (c .tmr) 3))
-  pub tmr0-cnt : readOf c icfg icfg1 0x10404 ≡ Is (tmrCnt (tmrOf (c .tmr) 0) (c .clock .cycles) (c .clock .hz))
-  pub tmr1-cnt : readOf c icfg icfg1 0x10504 ≡ Is (tmrCnt (tmrOf (c .tmr) 1) (c .clock .cycles) (c .clock .hz))
-  pub tmr2-cnt : readOf c icfg icfg1 0x10604 ≡ Is (tmrCnt (tmrOf (c .tmr) 2) (c .clock .cycles) (c .clock .hz))
-  pub tmr3-cnt : readOf c icfg icfg1 0x10704 ≡ Is (tmrCnt (tmrOf (c .tmr) 3) (c .clock .cycles) (c .clock .hz))
-  pub tmr0-prd : readOf c icfg icfg1 0x10408 ≡ Is (tmrPrd (tmrOf (c .tmr) 0))
-  pub tmr1-prd : readOf c icfg icfg1 0x10508 ≡ Is (tmrPrd (tmrOf (c .tmr) 1))
-  pub tmr2-prd : readOf c icfg icfg1 0x10608 ≡ Is (tmrPrd (tmrOf (c .tmr) 2))
-  pub tmr3-prd : readOf c icfg icfg1 0x10708 ≡ Is (tmrPrd (tmrOf (c .tmr) 3))
+  -- timers 0 to 3, a page each
+  pub tmr-con : (i : ℕ) → i < 4 → readOf c icfg icfg1 (tmrPage i) ≡ Is (tmrCon (tmrOf (c .tmr) i))
+  pub tmr-cnt : (i : ℕ) → i < 4 → readOf c icfg icfg1 (tmrPage i + 4) ≡ Is (tmrCnt (tmrOf (c .tmr) i) (c .clock .cycles) (c .clock .hz))
+  pub tmr-prd : (i : ℕ) → i < 4 → readOf c icfg icfg1 (tmrPage i + 8) ≡ Is (tmrPrd (tmrOf (c .tmr) i))
   pub t5-con : readOf c icfg icfg1 0x10900 ≡ Is (t5Con (c .t5))
   pub t5-cnt : readOf c icfg icfg1 0x10904 ≡ Is (t5Cnt (c .t5) (c .clock .cycles) (c .clock .hz))
   pub t5-prd : readOf c icfg icfg1 0x10908 ≡ Is (t5Prd (c .t5))

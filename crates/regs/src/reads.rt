@@ -69,7 +69,7 @@ fn t4_read(t: T4, addr: u32, now: u64, hz: u32) -> Value
 {
     match addr {
         0x10800 => Value::Is(t.con),
-        0x10804 => Value::Is(t.read_cnt(now, hz)),
+        0x10804 => Value::Is(t.read_cnt(now, hz).0),
         _ => Value::None,
     }
 }
@@ -79,7 +79,7 @@ fn t5_read(t: T5, addr: u32, now: u64, hz: u32) -> Value
 {
     match addr {
         0x10900 => Value::Is(t.read_con()),
-        0x10904 => Value::Is(t.read_cnt(now, hz)),
+        0x10904 => Value::Is(t.read_cnt(now, hz).0),
         0x10908 => Value::Is(t.prd),
         _ => Value::None,
     }

@@ -198,12 +198,11 @@ pub fn ms(c: Chip) -> u64
     ms_of_cycles(Cycles(c.clock.cycles), c.clock.hz)
 }
 
-pub fn cycle_of_ms(c: Chip, ms: u64) -> u64
+pub fn cycle_of_ms(c: Chip, ms: u64) -> Cycles
     requires { ⌜ (ms ≤ msMax) × (c .clock .hz ≤ rateMax) ⌝ }
-    ensures { λ r. ⌜ r ≡ cyclesOf c ms ⌝ }
+    ensures { λ r. ⌜ r .0 ≡ cyclesOf c ms ⌝ }
 {
-    let t = cycles_of_ms(ms, c.clock.hz);
-    t.0
+    cycles_of_ms(ms, c.clock.hz)
 }
 
 // ---- LEDs

@@ -39,10 +39,10 @@ impl Spi {
         requires { ⌜ (bytes ≤ spiBytesMax) × (baud ≤ spiBaudMax) × (now ≤ clockMax) × (self .«spi1_wire» < 2 ^ 62) ⌝ }
         ensures { λ r. ⌜ r ≡ spi1Started self bytes baud irq now hz ⌝ }
     {
-        let cycles = times::spi1_cycles(bytes, baud, hz).0;
-        let done = now + cycles;
+        let time = times::spi1_cycles(bytes, baud, hz);
+        let done = now + time.0;
         self.spi1_done_at = done;
-        self.spi1_wire = self.spi1_wire + cycles;
+        self.spi1_wire = self.spi1_wire + time.0;
         if irq {
             self.spi1_irq_at = done;
             return self;

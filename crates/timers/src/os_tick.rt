@@ -7,6 +7,7 @@ use base::rearmed;
 use base::started;
 use base::switched;
 use base::unless_wide;
+use times::Cycles;
 ghost use mathlib.Core.Path.{_≡_};
 ghost use Prim.Native.Nat.{_<_, _≤_, _^_};
 ghost use Rattle.base.specs.Moments.{clockMax};
@@ -43,7 +44,7 @@ impl Tick {
             return self;
         }
         self.start = self.next;
-        self.next = rearmed(self.next, now, tick_period(hz));
+        self.next = rearmed(self.next, now, tick_period(hz).0);
         self.pending = 1;
         self
     }
@@ -65,7 +66,7 @@ impl Tick {
         if self.next == NEVER {
             return 0;
         }
-        let period = tick_period(hz);
+        let period = tick_period(hz).0;
         times::mul_div(least(now - self.start, period), self.prd as u64, period)
     }
 
@@ -76,7 +77,7 @@ impl Tick {
         let was = self.ctl & 1 != 0;
         let on = v & 1 != 0;
         self.start = started(was, on, self.start, now);
-        self.next = switched(was, on, self.next, now + tick_period(hz));
+        self.next = switched(was, on, self.next, now + tick_period(hz).0);
         self.pending = unless_wide(v & 0x40 != 0, self.pending);
         self.ctl = v & 0x3f;
         self
@@ -91,7 +92,7 @@ impl Tick {
         if self.next == NEVER {
             return self;
         }
-        self.next = now + tick_period(hz);
+        self.next = now + tick_period(hz).0;
         self
     }
 
@@ -110,9 +111,9 @@ impl Tick {
     }
 }
 
-fn tick_period(hz: u32) -> u64
-    ensures { λ r. ⌜ r ≡ tickPeriod hz ⌝ }
-    ensures bounded { λ r. ⌜ (0 < r) × (r ≤ 2 ^ 26) ⌝ }
+fn tick_period(hz: u32) -> Cycles
+    ensures { λ r. ⌜ r .0 ≡ tickPeriod hz ⌝ }
+    ensures bounded { λ r. ⌜ (0 < r .0) × (r .0 ≤ 2 ^ 26) ⌝ }
 {
-    most((hz as u64) / 100, 1)
+    Cycles(most((hz as u64) / 100, 1))
 }

@@ -6,9 +6,10 @@ use base::most;
 use base::product;
 use base::rearmed;
 use base::unless;
+use times::Cycles;
 use times::Mhz24;
 ghost use mathlib.Core.Path.{_≡_};
-ghost use Prim.Native.Nat.{_-_, _<_, _≤_, _^_, max};
+ghost use Prim.Native.Nat.{_-_, _*_, _<_, _≤_, _^_, max};
 ghost use Rattle.base.specs.Moments.{clockMax};
 ghost use Rattle.timers.specs.Timer.{
   tmrNew,
@@ -52,20 +53,28 @@ impl Tmr {
     }
 
     // Cycles per count: the crystal through the prescaler, at least one.
-    fn per_count(self, hz: u32) -> u32
-        ensures { λ r. ⌜ r ≡ tmrPerCount self hz ⌝ }
-        ensures bounded { λ r. ⌜ (0 < r) × (r ≤ 2 ^ 23) ⌝ }
+    fn per_count(self, hz: u32) -> Cycles
+        ensures { λ r. ⌜ r .0 ≡ tmrPerCount self hz ⌝ }
+        ensures bounded { λ r. ⌜ (0 < r .0) × (r .0 ≤ 2 ^ 23) ⌝ }
     {
         let divider = times::divider(self.con / 16);
-        most(times::cycles_of_mhz24(Mhz24(divider), hz).0, 1) as u32
+        Cycles(most(times::cycles_of_mhz24(Mhz24(divider), hz).0, 1))
     }
 
-    // A period in cycles: PRD counts, of which none count as one.
-    fn period(self, hz: u32) -> u64
-        ensures { λ r. ⌜ r ≡ tmrPeriod self hz ⌝ }
-        ensures bounded { λ r. ⌜ (0 < r) × (r ≤ 2 ^ 55) ⌝ }
+    // The time of so many counts.
+    fn cycles_of(self, counts: u32, hz: u32) -> Cycles
+        ensures { λ r. ⌜ r .0 ≡ counts * tmrPerCount self hz ⌝ }
+        ensures bounded { λ r. ⌜ r .0 ≤ counts * 2 ^ 23 ⌝ }
     {
-        product(most(self.prd as u64, 1) as u32, self.per_count(hz))
+        Cycles(product(counts, self.per_count(hz).0 as u32))
+    }
+
+    // A period: PRD counts, of which none count as one.
+    fn period(self, hz: u32) -> Cycles
+        ensures { λ r. ⌜ r .0 ≡ tmrPeriod self hz ⌝ }
+        ensures bounded { λ r. ⌜ r .0 ≤ 2 ^ 55 ⌝ }
+    {
+        self.cycles_of(most(self.prd as u64, 1) as u32, hz)
     }
 
     // What the moment makes of it.
@@ -78,7 +87,7 @@ impl Tmr {
         }
         let period = self.period(hz);
         self.start = self.next;
-        self.next = rearmed(self.next, now, period);
+        self.next = rearmed(self.next, now, period.0);
         self.cnt0 = 0;
         self.pending = 1;
         self
@@ -101,7 +110,7 @@ impl Tmr {
         if self.next == NEVER {
             return self.cnt0;
         }
-        let counts = (now - self.start) / (self.per_count(hz) as u64);
+        let counts = (now - self.start) / self.per_count(hz).0;
         std::num::wrapping_add_u32(self.cnt0, (counts % 0x1_0000_0000) as u32)
     }
 
@@ -119,7 +128,7 @@ impl Tmr {
             return self;
         }
         self.start = now;
-        self.next = now + product(self.left(), self.per_count(hz));
+        self.next = now + self.cycles_of(self.left(), hz).0;
         self
     }
 

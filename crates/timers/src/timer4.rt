@@ -3,6 +3,7 @@ use base::least;
 use base::most;
 use base::started;
 use times::Cycles;
+use times::Mhz24;
 ghost use mathlib.Core.Path.{_≡_};
 ghost use Prim.Native.Nat.{_≤_};
 ghost use Rattle.base.specs.Moments.{clockMax};
@@ -35,14 +36,15 @@ impl T4 {
     }
 
     // The count, 0 while it is off.
-    pub fn read_cnt(self, now: u64, hz: u32) -> u32
+    pub fn read_cnt(self, now: u64, hz: u32) -> Mhz24
         requires { ⌜ self .base ≤ now ⌝ }
-        ensures { λ r. ⌜ r ≡ t4Cnt self now hz ⌝ }
+        ensures { λ r. ⌜ r .0 ≡ t4Cnt self now hz ⌝ }
     {
         if self.con & 1 == 0 {
-            return 0;
+            return Mhz24(0);
         }
-        times::mhz24_of_cycles(Cycles(now - self.base), hz).0
+        let running = now - self.base;
+        times::mhz24_of_cycles(Cycles(running), hz)
     }
 
     // A count read of a running TIMER4 outside an ISR, with skipping on. The third of three reads less than 64 cycles apart is a polling loop's: the
@@ -51,7 +53,8 @@ impl T4 {
         requires { ⌜ (self .«last_cnt_read» ≤ now) × (now ≤ clockMax) ⌝ }
         ensures { λ r. ⌜ r ≡ pollOf self now hz event ⌝ }
     {
-        self.cnt_streak = streak(self.cnt_streak, now - self.last_cnt_read);
+        let apart = now - self.last_cnt_read;
+        self.cnt_streak = streak(self.cnt_streak, Cycles(apart));
         let end = poll_end(self.cnt_streak, now, hz, event);
         self.last_cnt_read = end;
         Polled {
@@ -104,10 +107,10 @@ impl Polled {
 }
 
 // Close reads in a row; the count wraps.
-fn streak(before: u32, apart: u64) -> u32
-    ensures { λ r. ⌜ r ≡ streakOf before apart ⌝ }
+fn streak(before: u32, apart: Cycles) -> u32
+    ensures { λ r. ⌜ r ≡ streakOf before (apart .0) ⌝ }
 {
-    if apart < 64 {
+    if apart.0 < 64 {
         return std::num::wrapping_add_u32(before, 1);
     }
     0

@@ -8,7 +8,7 @@ use base::unless_wide;
 use times::Cycles;
 use times::Mhz6;
 ghost use mathlib.Core.Path.{_≡_};
-ghost use Prim.Native.Nat.{_<_, _≤_, _^_};
+ghost use Prim.Native.Nat.{_<_, _≤_, _^_, max};
 ghost use Rattle.base.specs.Moments.{clockMax, isDeadline};
 ghost use Rattle.timers.specs.Timer5.{t5New, t5Period, t5At, t5Con, t5Cnt, t5ConWritten, t5PrdWritten};
 
@@ -32,12 +32,20 @@ impl T5 {
         }
     }
 
-    fn period(self, hz: u32) -> u64
-        ensures { λ r. ⌜ r ≡ t5Period self hz ⌝ }
-        ensures bounded { λ r. ⌜ (0 < r) × (r ≤ 2 ^ 42) ⌝ }
+    // PRD's counts, of which none count as one.
+    fn counts(self) -> Mhz6
+        ensures { λ r. ⌜ r .0 ≡ max (self .prd) 1 ⌝ }
     {
         let prd = most(self.prd as u64, 1) as u32;
-        most(times::cycles_of_mhz6(Mhz6(prd), hz).0, 1)
+        Mhz6(prd)
+    }
+
+    // Their time, at least a cycle.
+    fn period(self, hz: u32) -> Cycles
+        ensures { λ r. ⌜ r .0 ≡ t5Period self hz ⌝ }
+        ensures bounded { λ r. ⌜ (0 < r .0) × (r .0 ≤ 2 ^ 42) ⌝ }
+    {
+        Cycles(most(times::cycles_of_mhz6(self.counts(), hz).0, 1))
     }
 
     // What the moment makes of it.
@@ -49,7 +57,7 @@ impl T5 {
             return self;
         }
         let period = self.period(hz);
-        self.next = rearmed(self.next, now, period);
+        self.next = rearmed(self.next, now, period.0);
         self.pending = 1;
         self
     }
@@ -63,22 +71,23 @@ impl T5 {
         self.con | 0x8000
     }
 
-    // How far into the period it is, in counts; 0 where the deadline is past.
-    pub fn read_cnt(self, now: u64, hz: u32) -> u32
-        ensures { λ r. ⌜ r ≡ t5Cnt self now hz ⌝ }
+    // How far into the period it is; 0 where the deadline is past.
+    pub fn read_cnt(self, now: u64, hz: u32) -> Mhz6
+        ensures { λ r. ⌜ r .0 ≡ t5Cnt self now hz ⌝ }
     {
         if self.con & 1 == 0 {
-            return 0;
+            return Mhz6(0);
         }
         if self.next == NEVER {
-            return 0;
+            return Mhz6(0);
         }
         if self.next < now {
-            return 0;
+            return Mhz6(0);
         }
-        let period = self.period(hz);
+        let period = self.period(hz).0;
         let into = period - least(self.next - now, period);
-        times::mhz6_of_cycles(Cycles(into), hz).0 % (most(self.prd as u64, 1) as u32)
+        let count = times::mhz6_of_cycles(Cycles(into), hz).0 % self.counts().0;
+        Mhz6(count)
     }
 
     pub fn write_con(mut self, v: u32, now: u64, hz: u32) -> Self
@@ -86,7 +95,7 @@ impl T5 {
         ensures { λ r. ⌜ r ≡ t5ConWritten self v now hz ⌝ }
     {
         let was = self.con & 1 != 0;
-        let fresh = now + self.period(hz);
+        let fresh = now + self.period(hz).0;
         self.next = switched(was, v & 1 != 0, self.next, fresh);
         self.pending = unless_wide(v & 0x4000 != 0, self.pending);
         self.con = v & !0xc000;

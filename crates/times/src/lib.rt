@@ -2,6 +2,9 @@
 // count of one clock is not taken for another's: processor cycles, the crystal's 24 MHz counts (TIMER4, timers 0 to 3,
 // audio frames), the 6 MHz counts of TIMER5 and the UART's 48 MHz clocks. `hz` is the processor's rate. Quotients floor.
 // `bounded` clauses are what a caller's sums need; they follow from the first clause.
+//
+// The blocks' periods, timeouts and transfers are such counts too. The fields of their records are plain numbers: moments, and registers
+// as the firmware reads them, in the layout that C sees. So a count gives up its type (`.0`) where a moment is added to it or a register handed out.
 mod wide;
 
 use base::most;
@@ -28,7 +31,7 @@ ghost use Rattle.times.specs.Clocks.{
 ghost use Rattle.times.specs.Divider.{dividerOf};
 ghost use Rattle.times.specs.Watchdog.{wdtMs};
 
-// Processor cycles: moments and lengths of time.
+// Processor cycles: a length of time, or the time since the start.
 pub struct Cycles(pub u64);
 
 // Counts of the 24 MHz crystal, as its 32-bit registers hold them.

@@ -7,6 +7,7 @@ use base::least;
 use base::most;
 use base::unless;
 use base::when;
+use times::Cycles;
 use times::UartClocks;
 ghost use mathlib.Core.Path.{_≡_};
 ghost use mathlib.Core.Bool.{cond};
@@ -228,19 +229,19 @@ impl Uart {
         self.wr = (self.wr + 1) % self.ring_len();
         self.since = std::num::wrapping_add_u32(self.since, 1);
         self.rpnd = either((self.rxcnt != 0) & (self.rxcnt <= self.since), 1, self.rpnd);
-        self.ot_next = now + self.timeout(hz);
+        self.ot_next = now + self.timeout(hz).0;
         self.updated()
     }
 
     // OTCNT UART clocks of silence, and at least a byte time.
-    fn timeout(self, hz: u32) -> u64
-        ensures { λ r. ⌜ r ≡ timeoutOf self hz ⌝ }
-        ensures bounded { λ r. ⌜ r ≤ 2 ^ 39 ⌝ }
+    fn timeout(self, hz: u32) -> Cycles
+        ensures { λ r. ⌜ r .0 ≡ timeoutOf self hz ⌝ }
+        ensures bounded { λ r. ⌜ r .0 ≤ 2 ^ 39 ⌝ }
     {
-        most(
+        Cycles(most(
             times::cycles_of_uart(UartClocks(self.otcnt), hz).0,
             times::midi_byte_time(hz).0,
-        )
+        ))
     }
 
     // The interrupt line: a pending whose interrupt is enabled.

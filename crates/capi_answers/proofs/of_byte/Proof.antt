@@ -1,4 +1,5 @@
 use Rattle.capi_answers.specs.Edge.{ofByte}
+use Rattle.uart.specs.Told.{toldByte}
 use borrow.Author.Needs.{needs}
 use Rattle.capi_answers.proofs.of_byte.Statement.{statement}
 use Rattle.capi_answers.proofs.of_byte.Tie as tie
@@ -13,11 +14,11 @@ enum-told : tie.Need-enum-told
 enum-told c = search needs
 
 returns : tie.Need-returns
-unfolding ofByte
+unfolding ofByte toldByte
 returns c = rw (c .before .x .given .1)
 
 returns-2 : tie.Need-returns-2
-unfolding ofByte
+unfolding ofByte toldByte
 returns-2 c = rw (c .enum-told .given .1)
 
 pub of-byte-spec : {M : Type 1} → statement M

@@ -1,4 +1,5 @@
 use Rattle.capi_answers.specs.Edge.{ofChoice}
+use Rattle.irq.specs.Told.{toldChoice}
 use borrow.Author.Needs.{needs}
 use Rattle.capi_answers.proofs.of_choice.Statement.{statement}
 use Rattle.capi_answers.proofs.of_choice.Tie as tie
@@ -16,11 +17,11 @@ enum-told : tie.Need-enum-told
 enum-told c = search needs
 
 returns : tie.Need-returns
-unfolding ofChoice
+unfolding ofChoice toldChoice
 returns c = rw (c .before .c .given .1)
 
 returns-2 : tie.Need-returns-2
-unfolding ofChoice
+unfolding ofChoice toldChoice
 returns-2 c = rw (c .enum-told .given .1)
 
 pub of-choice-spec : {M : Type 1} → statement M

@@ -1,4 +1,5 @@
 use Rattle.capi_answers.specs.Edge.{ofId}
+use Rattle.names.specs.Told.{toldId}
 use borrow.Author.Needs.{needs}
 use Rattle.capi_answers.proofs.of_id.Statement.{statement}
 use Rattle.capi_answers.proofs.of_id.Tie as tie
@@ -19,11 +20,11 @@ told-requires-2 : tie.Need-told-requires-2
 told-requires-2 c κs = search needs
 
 returns : tie.Need-returns
-unfolding ofId
+unfolding ofId toldId
 returns c = rw (c .told .ensures, c .before .before .id .given .1)
 
 returns-2 : tie.Need-returns-2
-unfolding ofId
+unfolding ofId toldId
 returns-2 c = rw (c .told2 .ensures, c .before .enum-told .given .1)
 
 pub of-id-spec : {M : Type 1} → statement M

@@ -3,6 +3,9 @@ use borrow.Author.Needs.{needs}
 use Rattle.asks_times.proofs.conversions.timer5_period.Statement.{statement}
 use Rattle.asks_times.proofs.conversions.timer5_period.Tie as tie
 
+cast-most : tie.Need-cast-most
+cast-most c = search needs
+
 most-requires : tie.Need-most-requires
 most-requires c κs = search needs
 
@@ -21,4 +24,5 @@ returns c = rw (c .most2 .ensures, c .before .cycles-of-mhz6 .ensures .0, c .bef
 
 pub timer5-period-spec : {M : Type 1} → statement M
 timer5-period-spec =
-    tie.close (tie.spec most-requires cast-prd cycles-of-mhz6-requires most-requires-2 returns)
+    tie.close
+    (tie.spec cast-most most-requires cast-prd cycles-of-mhz6-requires most-requires-2 returns)

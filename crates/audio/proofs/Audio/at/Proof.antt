@@ -49,7 +49,7 @@ pends-requires c κs = search needs
 
 returns-2 : tie.Need-returns-2
 unfolding audioAt finished
-returns-2 c = rw (c .before .pends .ensures, c .before .before .before .wrapping-add-u64 .ensures, c .before .before .before .before .before .half-period .ensures .0, c .before .before .before .before .before .before .wrapping-add-u32 .ensures, c .before .before .before .before .before .before .before .before .words .ensures, le-ltb _ _ (c .before .before .before .before .before .before .before .before .before .if1 .left))
+returns-2 c = rw (c .before .pends .ensures, c .before .before .before .wrapping-add-u64 .ensures, c .before .before .before .before .before .before .half-period .ensures .0, c .before .before .before .before .before .before .before .wrapping-add-u32 .ensures, c .before .before .before .before .before .before .before .before .before .words .ensures, le-ltb _ _ (c .before .before .before .before .before .before .before .before .before .before .if1 .left))
 
 pub at-spec : {M : Type 1} → statement M
 at-spec =

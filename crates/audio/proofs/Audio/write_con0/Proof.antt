@@ -17,7 +17,7 @@ switched-requires c κs = search needs
 
 returns : tie.Need-returns
 unfolding con0Written
-returns c = rw (c .switched .ensures, c .before .started .ensures, c .before .before .half-period .ensures .0)
+returns c = rw (c .switched .ensures, c .before .started .ensures, c .before .before .before .half-period .ensures .0)
 
 pub write-con0-spec : {M : Type 1} → statement M
 write-con0-spec =

@@ -2,11 +2,8 @@ use borrow.Author.Needs.{needs}
 use Rattle.capi.proofs.calls.fm1_new.Statement.{statement}
 use Rattle.capi.proofs.calls.fm1_new.Tie as tie
 
-places-requires : tie.Need-places-requires
-places-requires c κs = search needs
-
-made-requires : tie.Need-made-requires
-made-requires c κs = search needs
+new-requires : tie.Need-new-requires
+new-requires c κs = search needs
 
 same-length : tie.Need-same-length
 same-length c = search needs
@@ -15,9 +12,7 @@ same-length-2 : tie.Need-same-length-2
 same-length-2 c = search needs
 
 returns : tie.Need-returns
-returns c = (rw (c .before .before .before .before .made .ensures .0, c .before .before .before .before .before .before .before .places .ensures), (rw (c .before .before .before .before .made .ensures .1 .0, c .before .before .before .before .before .before .before .places .ensures), rw (c .before .before .before .before .made .ensures .1 .1, c .before .before .before .before .before .before .before .places .ensures)))
+returns c = (c .before .before .before .before .new .ensures .0, (c .before .before .before .before .new .ensures .1 .0, c .before .before .before .before .new .ensures .1 .1))
 
 pub fm1-new-spec : {M : Type 1} → statement M
-fm1-new-spec =
-    tie.close
-    (tie.spec places-requires made-requires same-length same-length-2 returns)
+fm1-new-spec = tie.close (tie.spec new-requires same-length same-length-2 returns)

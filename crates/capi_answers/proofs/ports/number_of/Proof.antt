@@ -1,4 +1,5 @@
 use Rattle.capi_answers.specs.Ports.{numberOf}
+use Rattle.p33.specs.Told.{toldEvent}
 use borrow.Author.Needs.{needs}
 use Rattle.capi_answers.proofs.ports.number_of.Statement.{statement}
 use Rattle.capi_answers.proofs.ports.number_of.Tie as tie
@@ -16,15 +17,15 @@ enum-told-2 : tie.Need-enum-told-2
 enum-told-2 c = search needs
 
 returns : tie.Need-returns
-unfolding numberOf
+unfolding numberOf toldEvent
 returns c = rw (c .enum-told .given .1)
 
 returns-2 : tie.Need-returns-2
-unfolding numberOf
+unfolding numberOf toldEvent
 returns-2 c = rw (c .fed-number .ensures, c .before .before .event .given .1)
 
 returns-3 : tie.Need-returns-3
-unfolding numberOf
+unfolding numberOf toldEvent
 returns-3 c = rw (c .enum-told2 .given .1)
 
 pub number-of-spec : {M : Type 1} → statement M

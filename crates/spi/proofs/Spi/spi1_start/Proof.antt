@@ -14,11 +14,11 @@ add-self c = search needs
 
 returns : tie.Need-returns
 unfolding spi1Started
-returns c = rw (c .before .before .spi1-cycles .ensures .0, c .if1 .taken)
+returns c = rw (c .before .before .before .before .spi1-cycles .ensures .0, c .if1 .taken)
 
 returns-2 : tie.Need-returns-2
 unfolding spi1Started
-returns-2 c = rw (c .before .before .spi1-cycles .ensures .0, c .if1 .left)
+returns-2 c = rw (c .before .before .before .before .spi1-cycles .ensures .0, c .if1 .left)
 
 pub spi1-start-spec : {M : Type 1} → statement M
 spi1-start-spec = tie.close (tie.spec spi1-cycles-requires add-done add-self returns returns-2)

@@ -16,7 +16,7 @@ add-self c = search needs
 
 returns-2 : tie.Need-returns-2
 unfolding tickCntWritten
-returns-2 c = rw (c .tick-period .ensures .0, ne-eqb _ _ (c .before .if1 .left))
+returns-2 c = rw (c .before .tick-period .ensures .0, ne-eqb _ _ (c .before .before .if1 .left))
 
 pub write-cnt-spec : {M : Type 1} → statement M
 write-cnt-spec = tie.close (tie.spec returns tick-period-requires add-self returns-2)

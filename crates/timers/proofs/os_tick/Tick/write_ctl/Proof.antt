@@ -20,7 +20,7 @@ unless-wide-requires c κs = search needs
 
 returns : tie.Need-returns
 unfolding tickCtlWritten
-returns c = rw (c .unless-wide .ensures, c .before .switched .ensures, c .before .before .before .started .ensures, c .before .before .tick-period .ensures .0)
+returns c = rw (c .unless-wide .ensures, c .before .switched .ensures, c .before .before .before .before .started .ensures, c .before .before .before .tick-period .ensures .0)
 
 pub write-ctl-spec : {M : Type 1} → statement M
 write-ctl-spec =

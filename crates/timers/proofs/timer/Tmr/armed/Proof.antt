@@ -1,6 +1,3 @@
-use Prim.Native.Nat.{_≤_, _^_}
-use native.Mathlib.Nat.{mul-le-mul}
-use native.Mathlib.Omega.{arith}
 use Rattle.timers.specs.Timer.{tmrPerCount, tmrArmed}
 use borrow.Author.Tests.{eq-eqb, ne-eqb}
 use borrow.Author.Needs.{needs}
@@ -18,30 +15,16 @@ returns-2 c = rw (ne-eqb _ _ (c .before .before .if1 .left), eq-eqb _ _ (c .if2 
 left-requires : tie.Need-left-requires
 left-requires c κs = search needs
 
-per-count-requires : tie.Need-per-count-requires
-per-count-requires c κs = search needs
-
-product-requires : tie.Need-product-requires
-product-requires c κs = search needs
+cycles-of-requires : tie.Need-cycles-of-requires
+cycles-of-requires c κs = search needs
 
 add-self : tie.Need-add-self
-add-self c =
-    let p : c .before .before .left .result ≤ 2 ^ 32 = omega arith in
-    let q : c .before .per-count .result ≤ 2 ^ 23 = c .before .per-count .ensures .1 .1 in
-    omega (arith, mul-le-mul p q)
+add-self c = search needs
 
 returns-3 : tie.Need-returns-3
 unfolding tmrArmed tmrPerCount
-returns-3 c = rw (c .product .ensures, c .before .per-count .ensures .0, c .before .before .left .ensures, ne-eqb _ _ (c .before .before .before .before .before .if1 .left), ne-eqb _ _ (c .before .before .before .if2 .left))
+returns-3 c = rw (c .before .cycles-of .ensures .0, c .before .before .left .ensures, ne-eqb _ _ (c .before .before .before .before .before .if1 .left), ne-eqb _ _ (c .before .before .before .if2 .left))
 
 pub armed-spec : {M : Type 1} → statement M
 armed-spec =
-    tie.close
-    (tie.spec
-    returns
-    returns-2
-    left-requires
-    per-count-requires
-    product-requires
-    add-self
-    returns-3)
+    tie.close (tie.spec returns returns-2 left-requires cycles-of-requires add-self returns-3)

@@ -13,9 +13,6 @@ cycles-of-mhz24-requires c κs = search needs
 most-requires : tie.Need-most-requires
 most-requires c κs = search needs
 
-cast-result : tie.Need-cast-result
-cast-result c = search needs
-
 returns : tie.Need-returns
 unfolding tmrPerCount
 returns c = (
@@ -25,5 +22,4 @@ returns c = (
 
 pub per-count-spec : {M : Type 1} → statement M
 per-count-spec =
-    tie.close
-    (tie.spec divider-requires cycles-of-mhz24-requires most-requires cast-result returns)
+    tie.close (tie.spec divider-requires cycles-of-mhz24-requires most-requires returns)

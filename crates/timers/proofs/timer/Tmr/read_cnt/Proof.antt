@@ -14,9 +14,6 @@ sub-counts c = search needs
 per-count-requires : tie.Need-per-count-requires
 per-count-requires c κs = search needs
 
-cast-counts : tie.Need-cast-counts
-cast-counts c = search needs
-
 div-counts : tie.Need-div-counts
 div-counts c = search needs
 
@@ -28,7 +25,7 @@ wrapping-add-u32-requires c κs = search needs
 
 returns-2 : tie.Need-returns-2
 unfolding tmrCnt
-returns-2 c = rw (c .wrapping-add-u32 .ensures, c .before .per-count .ensures .0, ne-eqb _ _ (c .before .before .before .if1 .left))
+returns-2 c = rw (c .wrapping-add-u32 .ensures, c .before .before .per-count .ensures .0, ne-eqb _ _ (c .before .before .before .before .if1 .left))
 
 pub read-cnt-spec : {M : Type 1} → statement M
 read-cnt-spec =
@@ -37,7 +34,6 @@ read-cnt-spec =
     returns
     sub-counts
     per-count-requires
-    cast-counts
     div-counts
     cast-wrapping-add-u32
     wrapping-add-u32-requires

@@ -3,8 +3,8 @@ use borrow.Author.Needs.{needs}
 use Rattle.timers.proofs.timer4.T4.polled.Statement.{statement}
 use Rattle.timers.proofs.timer4.T4.polled.Tie as tie
 
-sub-streak : tie.Need-sub-streak
-sub-streak c = search needs
+sub-apart : tie.Need-sub-apart
+sub-apart c = search needs
 
 streak-requires : tie.Need-streak-requires
 streak-requires c κs = search needs
@@ -17,4 +17,4 @@ unfolding pollOf
 returns c = rw (c .poll-end .ensures, c .before .streak .ensures)
 
 pub polled-spec : {M : Type 1} → statement M
-polled-spec = tie.close (tie.spec sub-streak streak-requires poll-end-requires returns)
+polled-spec = tie.close (tie.spec sub-apart streak-requires poll-end-requires returns)

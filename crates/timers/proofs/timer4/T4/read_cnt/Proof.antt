@@ -8,8 +8,8 @@ returns : tie.Need-returns
 unfolding t4Cnt
 returns c = rw (eq-eqb _ _ (c .if1 .taken))
 
-sub-t7 : tie.Need-sub-t7
-sub-t7 c = search needs
+sub-running : tie.Need-sub-running
+sub-running c = search needs
 
 mhz24-of-cycles-requires : tie.Need-mhz24-of-cycles-requires
 mhz24-of-cycles-requires c κs = search needs
@@ -19,4 +19,4 @@ unfolding t4Cnt
 returns-2 c = rw (c .mhz24-of-cycles .ensures, ne-eqb _ _ (c .before .before .if1 .left))
 
 pub read-cnt-spec : {M : Type 1} → statement M
-read-cnt-spec = tie.close (tie.spec returns sub-t7 mhz24-of-cycles-requires returns-2)
+read-cnt-spec = tie.close (tie.spec returns sub-running mhz24-of-cycles-requires returns-2)

@@ -4,29 +4,21 @@ use borrow.Author.Needs.{needs}
 use Rattle.timers.proofs.timer5.T5.period.Statement.{statement}
 use Rattle.timers.proofs.timer5.T5.period.Tie as tie
 
-cast-most : tie.Need-cast-most
-cast-most c = search needs
-
-most-requires : tie.Need-most-requires
-most-requires c κs = search needs
-
-cast-prd : tie.Need-cast-prd
-cast-prd c = search needs
+counts-requires : tie.Need-counts-requires
+counts-requires c κs = search needs
 
 cycles-of-mhz6-requires : tie.Need-cycles-of-mhz6-requires
 cycles-of-mhz6-requires c κs = search needs
 
-most-requires-2 : tie.Need-most-requires-2
-most-requires-2 c κs = search needs
+most-requires : tie.Need-most-requires
+most-requires c κs = search needs
 
 returns : tie.Need-returns
 unfolding t5Period
 returns c = (
-  rw (c .most2 .ensures, c .before .cycles-of-mhz6 .ensures .0, c .before .before .most .ensures),
+  rw (c .most .ensures, c .before .cycles-of-mhz6 .ensures .0, c .before .before .counts .ensures),
   (omega arith, omega arith),
 )
 
 pub period-spec : {M : Type 1} → statement M
-period-spec =
-    tie.close
-    (tie.spec cast-most most-requires cast-prd cycles-of-mhz6-requires most-requires-2 returns)
+period-spec = tie.close (tie.spec counts-requires cycles-of-mhz6-requires most-requires returns)

@@ -33,28 +33,22 @@ sub-into c = search needs
 mhz6-of-cycles-requires : tie.Need-mhz6-of-cycles-requires
 mhz6-of-cycles-requires c κs = search needs
 
-cast-most : tie.Need-cast-most
-cast-most c = search needs
+counts-requires : tie.Need-counts-requires
+counts-requires c κs = search needs
 
-most-requires : tie.Need-most-requires
-most-requires c κs = search needs
-
-cast-result : tie.Need-cast-result
-cast-result c = search needs
-
-rem-result : tie.Need-rem-result
-rem-result c = search needs
+rem-count : tie.Need-rem-count
+rem-count c = search needs
 
 returns-4 : tie.Need-returns-4
 unfolding t5Cnt t5Period
 returns-4 c =
     let a = c .before .before .before .before .before .before .before .before .before .before .before .before .before .args in
     let n : max (a .self .prd) 1 < 2 ^ 32 = omega arith in
-    let p : c .before .before .before .before .before .before .period .result ≡ max (cyclesOfMhz6 (max (a .self .prd) 1) (a .hz)) 1 = c .before .before .before .before .before .before .period .ensures .0 in
-    let h : c .before .before .before .before .before .before .period .result - c .before .before .before .before .least .result ≤ max (cyclesOfMhz6 (max (a .self .prd) 1) (a .hz)) 1 = omega arith in
+    let p : c .before .before .before .before .before .before .period .result .0 ≡ max (cyclesOfMhz6 (max (a .self .prd) 1) (a .hz)) 1 = c .before .before .before .before .before .before .period .ensures .0 in
+    let h : c .before .before .before .before .before .before .period .result .0 - c .before .before .before .before .least .result ≤ max (cyclesOfMhz6 (max (a .self .prd) 1) (a .hz)) 1 = omega arith in
     rw (
       c .before .before .before .mhz6-of-cycles .ensures,
-      c .before .most .ensures,
+      c .before .before .counts .ensures,
       whole-count _ _ (a .hz) n h,
       c .before .before .before .before .least .ensures,
       c .before .before .before .before .before .before .period .ensures .0,
@@ -74,8 +68,6 @@ read-cnt-spec =
     least-requires
     sub-into
     mhz6-of-cycles-requires
-    cast-most
-    most-requires
-    cast-result
-    rem-result
+    counts-requires
+    rem-count
     returns-4)

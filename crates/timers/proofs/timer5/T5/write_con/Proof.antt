@@ -17,7 +17,7 @@ unless-wide-requires c κs = search needs
 
 returns : tie.Need-returns
 unfolding t5ConWritten
-returns c = rw (c .unless-wide .ensures, c .before .switched .ensures, c .before .before .period .ensures .0)
+returns c = rw (c .unless-wide .ensures, c .before .switched .ensures, c .before .before .before .period .ensures .0)
 
 pub write-con-spec : {M : Type 1} → statement M
 write-con-spec =
