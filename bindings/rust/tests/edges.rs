@@ -87,21 +87,6 @@ fn refusals_come_in_their_order() {
 }
 
 #[test]
-fn a_flag_is_0_or_1() {
-    let board = Board::new(240_000_000).unwrap();
-    for on in 0..=255 {
-        let a = unsafe { fm1_set_in_isr(*board.record(), on) };
-        assert_eq!(a.refused, if on < 2 { 0 } else { STATE });
-        assert_eq!(a.board.chip.clock.in_isr, (on == 1) as u64);
-        let a = unsafe { fm1_spi2_start(*board.record(), 65_537, 0, on) };
-        assert_eq!(a.refused, if on < 2 { PARAM } else { STATE });
-    }
-    let regs = [0u8; PORT_BYTES];
-    assert_eq!(unsafe { fm1_port_reg(regs.as_ptr(), regs.len() - 1, 0, 2) }.refused, SIZE);
-    assert_eq!(unsafe { fm1_port_reg(regs.as_ptr(), regs.len(), 0, 2) }.refused, STATE);
-}
-
-#[test]
 fn an_unknown_event_is_none() {
     let mut port = Port::new();
     port.record_mut().event = 77;
