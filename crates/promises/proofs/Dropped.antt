@@ -85,9 +85,9 @@ step-went n t on bs c d (b ∷ q) x = served (leb d (c + n)) on t bs _ _ (c + n)
 
 -- ---- a call
 
-no-more : (q : List ℕ) (x n : ℕ) (on : Bool) → x ≡ x + cond on 0 0 + (0 - n)
-no-more q x n true = omega arith
-no-more q x n false = omega arith
+no-more : (x n : ℕ) (on : Bool) → x ≡ x + cond on 0 0 + (0 - n)
+no-more x n true = omega arith
+no-more x n false = omega arith
 
 none-given : (on : Bool) → _≡_ {A = List ℕ} [] (cond on [] [])
 none-given true = refl
@@ -104,7 +104,7 @@ module _ (s s′ : Held) where
       record {
         enters = rw (o, l) (q ∙ sym (append-nil (waiting s)) ∙ ap (λ (x : List ℕ). waiting s ++ x) (sym (take-nil (room (waiting s)))));
         gives = rw (i, l) (none-given on);
-        drops = rw (o, l) (x ∙ no-more (waiting s) (part s .dropped) (room (waiting s)) on);
+        drops = rw (o, l) (x ∙ no-more (part s .dropped) (room (waiting s)) on);
       }
 
   accounted : (e : Effect) → offeredIn e s ≡ offered (actsIn e s s′) → Does queueBytes (part s) (part s′) (stepsIn e s) (actsIn e s s′) → Accounted e s s′

@@ -267,9 +267,11 @@ module _ {M : Type 1} (𝓤 : URA M) (H : Heap 𝓤) (A : Atoms 𝓤) (mem : Mem
   capi-fm1-push-tied queue icfg icfg1 κs args g r e =
       let s = held (args .0) queue (wordsAt (now (args .1 .0))) (placesIn (now (args .1 .0))) icfg icfg1 in
       fact-mono 𝓤 _ _
-      (λ p.
-      ((λ i. held (p .0 i .board) queue (wordsAt (p .1 i)) (placesIn (p .1 i)) icfg icfg1)
-      ∙ both-forms s (args .0) queue .words-push (now (args .1 .0)) (args .1 .1 .0) (actionOf (args .1 .1 .1 .0)) (action-fits (args .1 .1 .1 .0)), ap (λ (d : Done). ofDone d) (p .0)))
+      (λ p. (
+        (λ i. held (p .0 i .board) queue (wordsAt (p .1 i)) (placesIn (p .1 i)) icfg icfg1)
+            ∙ both-forms s (args .0) queue .words-push (now (args .1 .0)) (args .1 .1 .0) (actionOf (args .1 .1 .1 .0)) (action-fits (args .1 .1 .1 .0)),
+        ap (λ (d : Done). ofDone d) (p .0),
+      ))
 
   pub capi-fm1-new-tied : (any : Board) (κs : Lfts (capi-fm1-new.signature .lifetimes)) (args : Args capi-fm1-new.signature κs) (g : Unit {0}) (r : Done) (e : AtExit capi-fm1-new.ended κs)
       → ent 𝓤 (capi-fm1-new.clauses 𝓤 H A mem run κs args .ensures g r e)
@@ -277,6 +279,7 @@ module _ {M : Type 1} (𝓤 : URA M) (H : Heap 𝓤) (A : Atoms 𝓤) (mem : Mem
   capi-fm1-new-tied any κs args g r e =
       via 𝓤 _ (beside-two 𝓤 r _ (now (e .1 .1 .1 .0)) _ (now (e .1 .1 .1 .1 .0)) _)
       (fact-mono 𝓤 _ _
-      (λ p.
-      ((λ i. held (p .0 i .board) (now (args .1 .0)) (wordsAt (now (args .1 .1 .0))) (placesIn (now (args .1 .1 .0))) (p .1 i .0) (p .1 i .1)),
-      ap (λ (d : Done). d .refused) (p .0) ∙ new-number (args .0) (length (now (args .1 .0))) (placesIn (now (args .1 .1 .0))) (length (now (args .1 .1 .1 .0))) (length (now (args .1 .1 .1 .1 .0))))))
+      (λ p. (
+        (λ i. held (p .0 i .board) (now (args .1 .0)) (wordsAt (now (args .1 .1 .0))) (placesIn (now (args .1 .1 .0))) (p .1 i .0) (p .1 i .1)),
+        ap (λ (d : Done). d .refused) (p .0) ∙ new-number (args .0) (length (now (args .1 .0))) (placesIn (now (args .1 .1 .0))) (length (now (args .1 .1 .1 .0))) (length (now (args .1 .1 .1 .1 .0))),
+      )))

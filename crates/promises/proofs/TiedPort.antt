@@ -174,9 +174,10 @@ module _ {M : Type 1} (𝓤 : URA M) (H : Heap 𝓤) (A : Atoms 𝓤) (mem : Mem
   unfolding after said
   capi-fm1-port-take-event-tied regs port κs g r e =
       fact-mono 𝓤 (r ≡ ofTaken (takenOf (portIn port))) _
-      (λ p.
-      (ap (λ (a : PortAnswered). held (portIn (a .port)) regs) p ∙ ap (λ (q : P33). held q regs) (port-kept (eventless (portIn port))),
-      ap (λ (a : PortAnswered). fromEvent (a .said)) p ∙ event-back (portIn port .event)))
+      (λ p. (
+        ap (λ (a : PortAnswered). held (portIn (a .port)) regs) p ∙ ap (λ (q : P33). held q regs) (port-kept (eventless (portIn port))),
+        ap (λ (a : PortAnswered). fromEvent (a .said)) p ∙ event-back (portIn port .event),
+      ))
 
   pub capi-fm1-port-reg-tied : (port : P33) (κs : Lfts (capi-fm1-port-reg.signature .lifetimes)) (args : Args capi-fm1-port-reg.signature κs) (g : Unit {0}) (r : SaidToC) (e : AtExit capi-fm1-port-reg.ended κs)
       → ent 𝓤 (capi-fm1-port-reg.clauses 𝓤 H A mem run κs args .ensures g r e)
@@ -195,9 +196,10 @@ module _ {M : Type 1} (𝓤 : URA M) (H : Heap 𝓤) (A : Atoms 𝓤) (mem : Mem
       let regs = now (args .1 .0) in
       let d = writeOf port regs (args .1 .1 .0) (args .1 .1 .1 .0) in
       fact-mono 𝓤 _ _
-      (λ p.
-      ((λ i. held (portIn (p .0 i .port)) (p .1 i)) ∙ ap (λ (q : P33). held q (writeIn port regs (args .1 .1 .0) (args .1 .1 .1 .0))) (done-kept (args .0) d (write-stays port regs (args .1 .1 .0) (args .1 .1 .1 .0))),
-      ap (λ (a : PortAnswered). refused (a .said .refused)) (p .0)))
+      (λ p. (
+        (λ i. held (portIn (p .0 i .port)) (p .1 i)) ∙ ap (λ (q : P33). held q (writeIn port regs (args .1 .1 .0) (args .1 .1 .1 .0))) (done-kept (args .0) d (write-stays port regs (args .1 .1 .0) (args .1 .1 .1 .0))),
+        ap (λ (a : PortAnswered). refused (a .said .refused)) (p .0),
+      ))
 
   pub capi-fm1-port-chip-reset-tied : (κs : Lfts (capi-fm1-port-chip-reset.signature .lifetimes)) (args : Args capi-fm1-port-chip-reset.signature κs) (g : Unit {0}) (r : PortAnswered) (e : AtExit capi-fm1-port-chip-reset.ended κs)
       → ent 𝓤 (capi-fm1-port-chip-reset.clauses 𝓤 H A mem run κs args .ensures g r e)
@@ -207,9 +209,10 @@ module _ {M : Type 1} (𝓤 : URA M) (H : Heap 𝓤) (A : Atoms 𝓤) (mem : Mem
       let port = portIn (args .0) in
       let regs = now (args .1 .0) in
       fact-mono 𝓤 _ _
-      (λ p.
-      ((λ i. held (portIn (p .0 i .port)) (p .1 i)) ∙ ap (λ (q : P33). held q (resetIn port regs (args .1 .1 .0))) (done-kept (args .0) (resetOf port regs) (reset-stays port regs)),
-      ap (λ (a : PortAnswered). refused (a .said .refused)) (p .0)))
+      (λ p. (
+        (λ i. held (portIn (p .0 i .port)) (p .1 i)) ∙ ap (λ (q : P33). held q (resetIn port regs (args .1 .1 .0))) (done-kept (args .0) (resetOf port regs) (reset-stays port regs)),
+        ap (λ (a : PortAnswered). refused (a .said .refused)) (p .0),
+      ))
 
 -- A port's call that is turned away hands C the record as it came, whatever its event's number is.
 pub port-as-it-came : (p : Port) (d : Done) → (d .refused ≡ 0 → ⊥) → ofPortDone p d .port ≡ p
