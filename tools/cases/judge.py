@@ -1,5 +1,6 @@
 """The port and the original on the same input, where an input is a list of parts (lines of `calls`, records of `driver`): their differences,
 and the smallest part of a failing input that still fails."""
+import platform
 import random
 import re
 import subprocess
@@ -9,6 +10,8 @@ import calls
 import driver
 
 ORACLE = "target/oracle/oracle"
+# both are programs for x86-64; elsewhere Debian's emulator runs them, over the libraries that the shared rustc-x86 has brought
+EMULATOR = [] if platform.machine() == "x86_64" else ["qemu-x86_64", "-L", "/usr/x86_64-linux-gnu"]
 # the value of a read of the converter's sample, in either program's words
 SAMPLE = re.compile(rb"( *read +0*13104 *= |R 00013104 )([0-9a-f]{8})(.*)")
 
@@ -63,7 +66,7 @@ class Entries(Driver):
 
 
 def run(command, text):
-    done = subprocess.run(command, input=text, capture_output=True)
+    done = subprocess.run([*EMULATOR, *command], input=text, capture_output=True)
     lines = done.stdout.split(b"\n")
     if lines[-1] == b"":
         lines.pop()

@@ -1,11 +1,13 @@
-// Standard input, a line at a time.
+// Standard input, a line at a time: bytes are read where none are left (`filled`), and go to the line up to its end (`taken`).
 use line_ask::LINE;
 use text::Span;
 use text::bytes_of;
 use text::first;
 use text::line_end;
 use text::put_text;
+ghost use mathlib.Core.Path.{_≡_};
 ghost use Prim.Native.Nat.{_<_};
+ghost use Rattle.calls.specs.Lines.{readerNew, begunOf, Filled, lineAfter, wentTo, takenOf};
 
 // Room for what is read or written at once.
 pub const BUFFER: usize = 65536;
@@ -19,7 +21,9 @@ pub struct Reader {
     pub over: bool,
 }
 
-pub fn new() -> Reader {
+pub fn new() -> Reader
+    ensures { λ r. ⌜ r ≡ readerNew ⌝ }
+{
     Reader {
         at: 0,
         got: 0,
@@ -40,25 +44,19 @@ pub fn left(turns: u64, over: bool) -> u64
     turns - 1
 }
 
-// The next line, at the front of `line`; the last one may have no end. A line that fills its room is too long.
-pub fn next(input: &mut [u8; BUFFER], line: &mut [u8; LINE], r: Reader) -> Reader {
-    let mut now = r;
-    now.len = 0;
-    now.whole = false;
-    let mut turns = u64::MAX;
-    while 0 < turns {
-        turns = turns - 1;
-        now = filled(input, now);
-        now = taken(input, line, now);
-        if now.whole {
-            turns = 0;
-        }
-    }
-    now
+// The next line begins.
+pub fn begun(mut r: Reader) -> Reader
+    ensures { λ n. ⌜ n ≡ begunOf r ⌝ }
+{
+    r.len = 0;
+    r.whole = false;
+    r
 }
 
-// Bytes to go on with: more are read where none are left. No more is the input's end, and the line's.
-fn filled(input: &mut [u8; BUFFER], mut r: Reader) -> Reader {
+// Bytes to go on with: more are read where none are left. No more is the input's end, and the line's, which may have no end of its own.
+pub fn filled(input: &mut [u8; BUFFER], mut r: Reader) -> Reader
+    ensures { λ n. ⌜ Filled (now (input .entry)) r (now (input .exit)) n ⌝ }
+{
     if r.at < r.got {
         return r;
     }
@@ -70,8 +68,11 @@ fn filled(input: &mut [u8; BUFFER], mut r: Reader) -> Reader {
     r
 }
 
-// The bytes up to the line's end, or all there are. A full line stays full.
-fn taken(input: &[u8; BUFFER], line: &mut [u8; LINE], r: Reader) -> Reader {
+// The bytes up to the line's end, or all there are. A line that fills its room is too long, and stays so.
+pub fn taken(input: &[u8; BUFFER], line: &mut [u8; LINE], r: Reader) -> Reader
+    ensures { λ n. ⌜ n ≡ takenOf (now (input .entry)) (now (line .entry)) r ⌝ }
+    ensures bytes { λ _. ⌜ now (line .exit) ≡ lineAfter (now (input .entry)) (now (line .entry)) r ⌝ }
+{
     let bytes = first(input, r.got);
     let end = line_end(bytes, r.at);
     let part = Span {
@@ -85,7 +86,9 @@ fn taken(input: &[u8; BUFFER], line: &mut [u8; LINE], r: Reader) -> Reader {
     went(r, end, n, r.whole)
 }
 
-fn went(r: Reader, at: usize, len: usize, whole: bool) -> Reader {
+fn went(r: Reader, at: usize, len: usize, whole: bool) -> Reader
+    ensures { λ n. ⌜ n ≡ wentTo r at len whole ⌝ }
+{
     Reader {
         at: at,
         got: r.got,

@@ -40,8 +40,10 @@ use calls_port::on_port;
 use line_ask::LINE;
 use line_ask::asked;
 use lines::BUFFER;
+use lines::begun;
+use lines::filled;
 use lines::left;
-use lines::next;
+use lines::taken;
 use p33::P33;
 use script::SCRIPT_LEN;
 use script::SCRIPT_WORDS;
@@ -73,23 +75,27 @@ fn main() {
     let mut to: usize = 0;
     let mut turns = u64::MAX;
     while 0 < turns {
-        reader = next(&mut input, &mut line, reader);
-        let ask = asked(&line, reader.len);
-        let c = on_board(
-            b,
-            ask,
-            &mut queue,
-            &mut script,
-            &mut icfg,
-            &mut icfg1,
-            &mut lights,
-        );
-        b = c.board;
-        let answer = c.answer;
-        let p = on_port(ports, ask, answer, &mut regs, &mut aside);
-        ports = p.ports;
-        let said = p.answer;
-        to = put_line(&mut out, to, &line, reader.len, said, &lights);
+        reader = filled(&mut input, reader);
+        reader = taken(&input, &mut line, reader);
+        if reader.whole {
+            let ask = asked(&line, reader.len);
+            let c = on_board(
+                b,
+                ask,
+                &mut queue,
+                &mut script,
+                &mut icfg,
+                &mut icfg1,
+                &mut lights,
+            );
+            b = c.board;
+            let answer = c.answer;
+            let p = on_port(ports, ask, answer, &mut regs, &mut aside);
+            ports = p.ports;
+            let said = p.answer;
+            to = put_line(&mut out, to, &line, reader.len, said, &lights);
+            reader = begun(reader);
+        }
         turns = left(turns, reader.over);
     }
     flush(&out, to);

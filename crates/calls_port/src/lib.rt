@@ -28,10 +28,28 @@ use p33::Done;
 use p33::Event;
 use p33::P33;
 use p33::Snap;
+use p33::Value;
 use std::num::wrapping_add_u64;
 ghost use mathlib.Core.Path.{_≡_};
-ghost use mathlib.Core.Bool.{false};
-ghost use Rattle.calls_port.specs.Passing.{isOfPort, passedOn};
+ghost use Rattle.calls_port.specs.Ports.{
+  isOfPort,
+  doneOf,
+  eventAnswer,
+  eventOf,
+  keptOf,
+  registerAnswer,
+  sameAnswer,
+  snapAnswer,
+  timesPrime,
+  sumOf,
+  lookedOf,
+  carriedOf,
+  carriedIn,
+  carriedAside,
+  portedOf,
+  regsAfter,
+  asideAfter,
+};
 
 pub struct Ports {
     pub port: P33,
@@ -43,8 +61,7 @@ pub struct Ported {
     pub answer: Answer,
 }
 
-// The ports after a line, and its answer: the one given, where the line asks nothing of the port. What a call of the port answers is `p33`'s, whose contracts
-// say it; put together it has no contract here, and is held to the original's answers.
+// The ports after a line, and its answer: the one given, where the line asks nothing of the port.
 pub fn on_port(
     p: Ports,
     ask: Ask,
@@ -52,9 +69,9 @@ pub fn on_port(
     regs: &mut [u8; 2048],
     aside: &mut [u8; 2048],
 ) -> Ported
-    ensures passed { λ r. ⌜ (isOfPort (ask .call) ≡ false → r ≡ passedOn p a) ⌝ }
-    ensures memory { λ r. ⌜ (isOfPort (ask .call) ≡ false → now (regs .exit) ≡ now (regs .entry)) ⌝ }
-    ensures kept { λ r. ⌜ (isOfPort (ask .call) ≡ false → now (aside .exit) ≡ now (aside .entry)) ⌝ }
+    ensures { λ r. ⌜ r ≡ portedOf p ask a (now (regs .entry)) (now (aside .entry)) ⌝ }
+    ensures memory { λ r. ⌜ now (regs .exit) ≡ regsAfter p ask (now (regs .entry)) ⌝ }
+    ensures kept { λ r. ⌜ now (aside .exit) ≡ asideAfter ask (now (regs .entry)) (now (aside .entry)) ⌝ }
 {
     if is_of_port(ask.call) {
         return carried(p, ask, regs, aside);
@@ -71,10 +88,16 @@ fn is_of_port(call: usize) -> bool
     (PORT_WRITE <= call) & (call <= PORT_RESET)
 }
 
-fn carried(p: Ports, ask: Ask, regs: &mut [u8; 2048], aside: &mut [u8; 2048]) -> Ported {
+fn carried(p: Ports, ask: Ask, regs: &mut [u8; 2048], aside: &mut [u8; 2048]) -> Ported
+    ensures { λ r. ⌜ r ≡ carriedOf p ask (now (regs .entry)) (now (aside .entry)) ⌝ }
+    ensures memory { λ r. ⌜ now (regs .exit) ≡ carriedIn p ask (now (regs .entry)) ⌝ }
+    ensures kept { λ r. ⌜ now (aside .exit) ≡ carriedAside ask (now (regs .entry)) (now (aside .entry)) ⌝ }
+{
     let k = ask.call;
     match k {
-        PORT_WRITE | PORT_NEW | PORT_RESET => done(p, did(p.port, ask, regs)),
+        PORT_WRITE => done(p, p33::write_through(p.port, regs, ask.a, ask.v)),
+        PORT_NEW => done(p, P33::new(regs)),
+        PORT_RESET => done(p, p33::chip_reset_through(p.port, regs, ask.b)),
         PORT_EVENT => event(p),
         PORT_KEEP => keep(p, regs, aside),
         _ => Ported {
@@ -84,16 +107,9 @@ fn carried(p: Ports, ask: Ask, regs: &mut [u8; 2048], aside: &mut [u8; 2048]) ->
     }
 }
 
-fn did(port: P33, ask: Ask, regs: &mut [u8; 2048]) -> Done {
-    let k = ask.call;
-    match k {
-        PORT_WRITE => p33::write_through(port, regs, ask.a, ask.v),
-        PORT_RESET => p33::chip_reset_through(port, regs, ask.b),
-        _ => P33::new(regs),
-    }
-}
-
-fn done(mut p: Ports, d: Done) -> Ported {
+fn done(mut p: Ports, d: Done) -> Ported
+    ensures { λ r. ⌜ r ≡ doneOf p d ⌝ }
+{
     let port = d.port;
     p.port = port;
     Ported {
@@ -103,9 +119,12 @@ fn done(mut p: Ports, d: Done) -> Ported {
 }
 
 // The port copied aside.
-fn keep(mut p: Ports, regs: &[u8; 2048], aside: &mut [u8; 2048]) -> Ported {
+fn keep(mut p: Ports, regs: &[u8; 2048], aside: &mut [u8; 2048]) -> Ported
+    ensures { λ r. ⌜ r ≡ keptOf p ⌝ }
+    ensures kept { λ r. ⌜ now (aside .exit) ≡ now (regs .entry) ⌝ }
+{
     let port = p.port;
-    copy(regs, aside);
+    *aside = *regs;
     p.kept = port;
     Ported {
         ports: p,
@@ -113,15 +132,9 @@ fn keep(mut p: Ports, regs: &[u8; 2048], aside: &mut [u8; 2048]) -> Ported {
     }
 }
 
-fn copy(from: &[u8; 2048], to: &mut [u8; 2048]) {
-    let mut i: usize = 0;
-    while i < 2048 {
-        to[i] = from[i];
-        i = i + 1;
-    }
-}
-
-fn event(mut p: Ports) -> Ported {
+fn event(mut p: Ports) -> Ported
+    ensures { λ r. ⌜ r ≡ eventOf p ⌝ }
+{
     let port = p.port;
     let taken = p33::take_event_through(port);
     let event = taken.event;
@@ -133,7 +146,9 @@ fn event(mut p: Ports) -> Ported {
     }
 }
 
-fn event_answer(event: Event) -> Answer {
+fn event_answer(event: Event) -> Answer
+    ensures { λ r. ⌜ r ≡ eventAnswer event ⌝ }
+{
     match event {
         Event::None => two(NONE, 0, 0),
         Event::Wdt { fed } => two(WDT, base::when(fed, 1) as u64, 0),
@@ -143,13 +158,15 @@ fn event_answer(event: Event) -> Answer {
 
 // ---- what leaves the port as it is
 
-fn looked(p: Ports, ask: Ask, regs: &[u8; 2048], aside: &[u8; 2048]) -> Answer {
+fn looked(p: Ports, ask: Ask, regs: &[u8; 2048], aside: &[u8; 2048]) -> Answer
+    ensures { λ r. ⌜ r ≡ lookedOf p ask (now (regs .entry)) (now (aside .entry)) ⌝ }
+{
     let port = p.port;
     let kept = p.kept;
     let k = ask.call;
     match k {
         PORT_READ => two(HEX, port.read(ask.a) as u64, 0),
-        PORT_REG => reg(regs, (ask.n % 0x1_0000) as u16, ask.m == 1),
+        PORT_REG => reg(P33::reg(regs, (ask.n % 0x1_0000) as u16, ask.m == 1)),
         PORT_MS => number(P33::wdt_ms(ask.b)),
         PORT_SAME => same(p33::same(port, regs, kept, aside)),
         PORT_SNAP => snap(port.snap()),
@@ -157,16 +174,21 @@ fn looked(p: Ports, ask: Ask, regs: &[u8; 2048], aside: &[u8; 2048]) -> Answer {
     }
 }
 
-fn reg(regs: &[u8; 2048], addr: u16, rtc: bool) -> Answer {
-    let found = P33::reg(regs, addr, rtc);
+fn reg(found: Value) -> Answer
+    ensures { λ r. ⌜ r ≡ registerAnswer found ⌝ }
+{
     pair(found.refused as u32, BYTE, found.value as u64, 0)
 }
 
-fn same(c: Compared) -> Answer {
+fn same(c: Compared) -> Answer
+    ensures { λ r. ⌜ r ≡ sameAnswer c ⌝ }
+{
     flag(c.refused as u32, c.same)
 }
 
-fn snap(s: Snap) -> Answer {
+fn snap(s: Snap) -> Answer
+    ensures { λ r. ⌜ r ≡ snapAnswer s ⌝ }
+{
     Answer {
         form: SIX,
         numbers: [
@@ -185,7 +207,9 @@ fn snap(s: Snap) -> Answer {
 }
 
 // FNV-1a on 64 bits.
-fn sum(regs: &[u8; 2048]) -> u64 {
+fn sum(regs: &[u8; 2048]) -> u64
+    ensures { λ r. ⌜ r ≡ sumOf 2048 (now (regs .entry)) ⌝ }
+{
     let mut h: u64 = 0xcbf2_9ce4_8422_2325;
     let mut i: usize = 0;
     while i < 2048 {
@@ -195,12 +219,16 @@ fn sum(regs: &[u8; 2048]) -> u64 {
     h
 }
 
-fn wide(b: u8) -> u64 {
+fn wide(b: u8) -> u64
+    ensures { λ r. ⌜ r ≡ b ⌝ }
+{
     b as u64
 }
 
 // Times 2^40 + 0x1b3, a bit of it at a time: 0x1b3 is 3 * (1 + 16 + 128).
-fn times_prime(h: u64) -> u64 {
+fn times_prime(h: u64) -> u64
+    ensures { λ r. ⌜ r ≡ timesPrime h ⌝ }
+{
     let three = wrapping_add_u64(h, h << 1);
     let low = wrapping_add_u64(three, wrapping_add_u64(three << 4, three << 7));
     wrapping_add_u64(low, h << 40)

@@ -1,5 +1,4 @@
 // The record from rows of numbers, one for each field that a whole record limits and for those that decide what the calls here do. A field with one place has it at the row's front; all other fields are a new board's.
-// What `board_of` ensures is less than its sentence: the LEDs' light and the ramps' beginnings are their rows. The other fields are held by the runs against tools/broken.
 use audio::Audio;
 use panel::Enc;
 use panel::Pins;
@@ -17,7 +16,29 @@ use timers::Tmr;
 use uart::Uart;
 ghost use mathlib.Core.Path.{_≡_};
 ghost use Prim.Native.Nat.{_≤_};
-ghost use Rattle.refusals_rows.specs.Rows.{rowOf, row, filled, placed, low as lowOf, tmrFrom, encFrom};
+ghost use mathlib.Core.List.{map};
+ghost use Rattle.refusals_rows.specs.Rows.{
+  rowOf,
+  filled,
+  placed,
+  low as lowOf,
+  tmrMade,
+  encMade,
+  clockFrom,
+  t4From,
+  tmrsFrom,
+  audioFrom,
+  spiFrom,
+  uartFrom,
+  hostFrom,
+  scriptFrom,
+  pinsFrom,
+  encsFrom,
+  chipFrom,
+  forceFrom,
+  panelFrom,
+  boardFrom,
+};
 
 pub const ROWS: usize = 48;
 
@@ -66,7 +87,7 @@ fn low(v: u64) -> u32
 }
 
 fn tmr_of(start: u64, next: u64) -> Tmr
-    ensures { λ r. ⌜ r ≡ tmrFrom start next ⌝ }
+    ensures { λ r. ⌜ r ≡ tmrMade start next ⌝ }
 {
     Tmr {
         start: start,
@@ -79,7 +100,7 @@ fn tmr_of(start: u64, next: u64) -> Tmr
 }
 
 fn enc_of(next: u64, pending: u64, state: u64) -> Enc
-    ensures { λ r. ⌜ r ≡ encFrom next pending state ⌝ }
+    ensures { λ r. ⌜ r ≡ encMade next pending state ⌝ }
 {
     Enc {
         next: next,
@@ -88,7 +109,9 @@ fn enc_of(next: u64, pending: u64, state: u64) -> Enc
     }
 }
 
-fn tmrs_of(rows: &[[u64; PLACES]; ROWS]) -> [Tmr; 4] {
+fn tmrs_of(rows: &[[u64; PLACES]; ROWS]) -> [Tmr; 4]
+    ensures { λ r. ⌜ r ≡ tmrsFrom (now (rows .entry)) ⌝ }
+{
     let s = rows[11];
     let n = rows[12];
     [
@@ -99,7 +122,9 @@ fn tmrs_of(rows: &[[u64; PLACES]; ROWS]) -> [Tmr; 4] {
     ]
 }
 
-fn encs_of(rows: &[[u64; PLACES]; ROWS]) -> [Enc; 8] {
+fn encs_of(rows: &[[u64; PLACES]; ROWS]) -> [Enc; 8]
+    ensures { λ r. ⌜ r ≡ encsFrom (now (rows .entry)) ⌝ }
+{
     let n = rows[38];
     let p = rows[39];
     let s = rows[40];
@@ -116,7 +141,9 @@ fn encs_of(rows: &[[u64; PLACES]; ROWS]) -> [Enc; 8] {
 }
 
 // A block at a time: a function that holds one block alone is cheap to prove.
-fn clock_of(mut c: Clock, rows: &[[u64; PLACES]; ROWS]) -> Clock {
+fn clock_of(mut c: Clock, rows: &[[u64; PLACES]; ROWS]) -> Clock
+    ensures { λ r. ⌜ r ≡ clockFrom c (now (rows .entry)) ⌝ }
+{
     c.cycles = rows[1][0];
     c.next_due = rows[2][0];
     c.skipped = rows[3][0];
@@ -125,7 +152,9 @@ fn clock_of(mut c: Clock, rows: &[[u64; PLACES]; ROWS]) -> Clock {
     c
 }
 
-fn t4_of(mut t: T4, rows: &[[u64; PLACES]; ROWS]) -> T4 {
+fn t4_of(mut t: T4, rows: &[[u64; PLACES]; ROWS]) -> T4
+    ensures { λ r. ⌜ r ≡ t4From t (now (rows .entry)) ⌝ }
+{
     t.con = low(rows[6][0]);
     t.base = rows[7][0];
     t.last_cnt_read = rows[8][0];
@@ -133,14 +162,18 @@ fn t4_of(mut t: T4, rows: &[[u64; PLACES]; ROWS]) -> T4 {
     t
 }
 
-fn audio_of(mut a: Audio, rows: &[[u64; PLACES]; ROWS]) -> Audio {
+fn audio_of(mut a: Audio, rows: &[[u64; PLACES]; ROWS]) -> Audio
+    ensures { λ r. ⌜ r ≡ audioFrom a (now (rows .entry)) ⌝ }
+{
     a.next = rows[15][0];
     a.half = rows[16][0];
     a.len = low(rows[17][0]);
     a
 }
 
-fn spi_of(mut s: Spi, rows: &[[u64; PLACES]; ROWS]) -> Spi {
+fn spi_of(mut s: Spi, rows: &[[u64; PLACES]; ROWS]) -> Spi
+    ensures { λ r. ⌜ r ≡ spiFrom s (now (rows .entry)) ⌝ }
+{
     s.spi1_done_at = rows[18][0];
     s.spi1_irq_at = rows[19][0];
     s.spi1_wire = rows[20][0];
@@ -148,7 +181,9 @@ fn spi_of(mut s: Spi, rows: &[[u64; PLACES]; ROWS]) -> Spi {
     s
 }
 
-fn uart_of(mut u: Uart, rows: &[[u64; PLACES]; ROWS]) -> Uart {
+fn uart_of(mut u: Uart, rows: &[[u64; PLACES]; ROWS]) -> Uart
+    ensures { λ r. ⌜ r ≡ uartFrom u (now (rows .entry)) ⌝ }
+{
     u.next = rows[22][0];
     u.ot_next = rows[23][0];
     u.dropped = rows[24][0];
@@ -159,29 +194,37 @@ fn uart_of(mut u: Uart, rows: &[[u64; PLACES]; ROWS]) -> Uart {
     u
 }
 
-fn host_of(mut h: Host, rows: &[[u64; PLACES]; ROWS]) -> Host {
+fn host_of(mut h: Host, rows: &[[u64; PLACES]; ROWS]) -> Host
+    ensures { λ r. ⌜ r ≡ hostFrom h (now (rows .entry)) ⌝ }
+{
     h.usb_next = rows[29][0];
     h.usb_period = rows[30][0];
     h.wdt_at = rows[31][0];
     h
 }
 
-fn script_of(mut s: Script, rows: &[[u64; PLACES]; ROWS]) -> Script {
-    s.at = rows[32][0];
-    s.place = low(rows[33][0]);
-    s.count = low(rows[34][0]);
-    s
+fn script_of(rows: &[[u64; PLACES]; ROWS]) -> Script
+    ensures { λ r. ⌜ r ≡ scriptFrom (now (rows .entry)) ⌝ }
+{
+    Script {
+        at: rows[32][0],
+        place: low(rows[33][0]),
+        count: low(rows[34][0]),
+    }
 }
 
-fn pins_of(mut p: Pins, rows: &[[u64; PLACES]; ROWS]) -> Pins {
+fn pins_of(mut p: Pins, rows: &[[u64; PLACES]; ROWS]) -> Pins
+    ensures { λ r. ⌜ r ≡ pinsFrom p (now (rows .entry)) ⌝ }
+{
     p.led_last = rows[35][0];
     p.led_since = rows[36][0];
     p.led_pend = rows[37][0];
     p
 }
 
-fn chip_of(rows: &[[u64; PLACES]; ROWS]) -> Chip {
-    let mut c = Chip::new(low(rows[0][0]));
+fn chip_of(mut c: Chip, rows: &[[u64; PLACES]; ROWS]) -> Chip
+    ensures { λ r. ⌜ r ≡ chipFrom c (now (rows .entry)) ⌝ }
+{
     c.clock = clock_of(c.clock, rows);
     c.t4 = t4_of(c.t4, rows);
     c.t5.next = rows[10][0];
@@ -193,7 +236,7 @@ fn chip_of(rows: &[[u64; PLACES]; ROWS]) -> Chip {
     c.spi = spi_of(c.spi, rows);
     c.uart = uart_of(c.uart, rows);
     c.host = host_of(c.host, rows);
-    c.script = script_of(c.script, rows);
+    c.script = script_of(rows);
     c.pins = pins_of(c.pins, rows);
     let enc = encs_of(rows);
     c.enc = enc;
@@ -203,22 +246,21 @@ fn chip_of(rows: &[[u64; PLACES]; ROWS]) -> Chip {
     c
 }
 
-// The forces that are tried; any other number stands for no number at all.
-fn force(bits: u64) -> f32 {
-    let zero = 0.0f32;
-    let one = 1.0f32;
-    match bits {
-        0 => zero,
-        0x3f80_0000 => one,
-        0x3f80_0001 => 1.000_000_1f32,
-        0x8000_0000 => -zero,
-        0xbf80_0000 => -one,
-        0x7f80_0000 => one / zero,
-        _ => zero / zero,
+// A force by its bits; those of no number are one NaN.
+fn force(bits: u64) -> f32
+    ensures { λ r. ⌜ r ≡ forceFrom bits ⌝ }
+{
+    let b = low(bits);
+    if b % 0x8000_0000 <= 0x7f80_0000 {
+        return f32::from_bits(b);
     }
+    let zero = 0.0f32;
+    zero / zero
 }
 
-fn forces(row: [u64; PLACES]) -> [f32; PLACES] {
+fn forces(row: [u64; PLACES]) -> [f32; PLACES]
+    ensures { λ r. ⌜ r ≡ map forceFrom row ⌝ }
+{
     let mut f = [0.0f32; PLACES];
     let mut i: usize = 0;
     while i < PLACES {
@@ -228,7 +270,9 @@ fn forces(row: [u64; PLACES]) -> [f32; PLACES] {
     f
 }
 
-fn lows(row: [u64; PLACES]) -> [u32; PLACES] {
+fn lows(row: [u64; PLACES]) -> [u32; PLACES]
+    ensures { λ r. ⌜ r ≡ map lowOf row ⌝ }
+{
     let mut l = [0u32; PLACES];
     let mut i: usize = 0;
     while i < PLACES {
@@ -238,10 +282,9 @@ fn lows(row: [u64; PLACES]) -> [u32; PLACES] {
     l
 }
 
-fn panel_of(rows: &[[u64; PLACES]; ROWS]) -> Panel
-    ensures { λ r. ⌜ (r .acc ≡ row (now (rows .entry)) 47) × (r .ramps .t0 ≡ row (now (rows .entry)) 43) ⌝ }
+fn panel_of(mut p: Panel, rows: &[[u64; PLACES]; ROWS]) -> Panel
+    ensures { λ r. ⌜ r ≡ panelFrom p (now (rows .entry)) ⌝ }
 {
-    let mut p = Panel::new();
     let t0 = rows[43];
     let dur = lows(rows[44]);
     let from = forces(rows[45]);
@@ -259,10 +302,10 @@ fn panel_of(rows: &[[u64; PLACES]; ROWS]) -> Panel
 }
 
 pub fn board_of(rows: &[[u64; PLACES]; ROWS]) -> Board
-    ensures { λ r. ⌜ (r .panel .acc ≡ row (now (rows .entry)) 47) × (r .panel .ramps .t0 ≡ row (now (rows .entry)) 43) ⌝ }
+    ensures { λ r. ⌜ r ≡ boardFrom (now (rows .entry)) ⌝ }
 {
     Board {
-        chip: chip_of(rows),
-        panel: panel_of(rows),
+        chip: chip_of(Chip::new(low(rows[0][0])), rows),
+        panel: panel_of(Panel::new(), rows),
     }
 }

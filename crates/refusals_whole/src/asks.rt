@@ -14,11 +14,16 @@ use script::SCRIPT_WORDS;
 use state::Board;
 use step::OUT_BYTES;
 use uart::QUEUE_BYTES;
+ghost use mathlib.Core.Path.{_≡_};
+ghost use Rattle.refusals_rows.specs.Rows.{boardFrom};
+ghost use Rattle.refusals_whole.specs.Asked.{callOf, threeAt, threeOf, askedOf, timedOf, readTried};
 
 pub const CALLS: usize = 8;
 
 // By its place in this list, CALLS where it is none.
-pub fn call_of(name: &[u8]) -> usize {
+pub fn call_of(name: &[u8]) -> usize
+    ensures { λ r. ⌜ r ≡ callOf (now (name .entry)) ⌝ }
+{
     place_in(
         b"step push apply tick idle read spi1_start spi2_start",
         CALLS,
@@ -27,13 +32,17 @@ pub fn call_of(name: &[u8]) -> usize {
 }
 
 // The record with a number at a place of a row.
-pub fn three(rows: &[[u64; PLACES]; ROWS], k: usize, i: u64, v: u64) -> Answer {
+pub fn three(rows: &[[u64; PLACES]; ROWS], k: usize, i: u64, v: u64) -> Answer
+    ensures { λ r. ⌜ r ≡ threeAt (now (rows .entry)) k i v ⌝ }
+{
     let mut changed = *rows;
     put_at(&mut changed, k, i, v);
     three_of(board_of(&changed))
 }
 
-fn three_of(b: Board) -> Answer {
+fn three_of(b: Board) -> Answer
+    ensures { λ r. ⌜ r ≡ threeOf b ⌝ }
+{
     let front = b.chip.script.at;
     Answer {
         count: 3,
@@ -50,7 +59,9 @@ fn three_of(b: Board) -> Answer {
     }
 }
 
-pub fn asked(rows: &[[u64; PLACES]; ROWS], call: usize, n: Numbers) -> u32 {
+pub fn asked(rows: &[[u64; PLACES]; ROWS], call: usize, n: Numbers) -> u32
+    ensures { λ r. ⌜ r ≡ askedOf (boardFrom (now (rows .entry))) call n ⌝ }
+{
     let b = board_of(rows);
     match call {
         0 => step(b, n.a, n.b, n.c, n.d, n.e),
@@ -65,7 +76,9 @@ pub fn asked(rows: &[[u64; PLACES]; ROWS], call: usize, n: Numbers) -> u32 {
     }
 }
 
-fn timed(b: Board, call: usize, v: u32, w: u32) -> u32 {
+fn timed(b: Board, call: usize, v: u32, w: u32) -> u32
+    ensures { λ r. ⌜ r ≡ timedOf b call v w ⌝ }
+{
     match call {
         3 => board::tick(b).refused,
         4 => board::idle(b).refused,
@@ -75,7 +88,9 @@ fn timed(b: Board, call: usize, v: u32, w: u32) -> u32 {
     }
 }
 
-fn read(b: Board, addr: u32) -> u32 {
+fn read(b: Board, addr: u32) -> u32
+    ensures { λ r. ⌜ r ≡ readTried b addr ⌝ }
+{
     let icfg = [0u32; BANK_WORDS];
     let icfg1 = [0u32; BANK_WORDS];
     board::read(b, addr, &icfg, &icfg1).refused

@@ -1,3 +1,5 @@
+use borrow.Author.Tests.{le-leb, lt-leb}
+use Rattle.refusals_limits.specs.Lent.{madeWith}
 use lib.Seq.{length-take-le}
 use mathlib.Core.Path.{sym}
 use borrow.Author.Needs.{needs}
@@ -26,13 +28,16 @@ same-length-2 : tie.Need-same-length-2
 same-length-2 c = search needs
 
 returns : tie.Need-returns
-returns c = search needs
+unfolding madeWith
+returns c = rw (le-leb _ _ (c .before .before .before .before .before .before .before .before .if1 .taken), le-leb _ _ (c .before .before .before .before .before .before .before .if2 .taken), c .before .before .before .before .made .ensures .0, length-take-le (c .before .before .before .before .before .before .before .before .before .before .before .args .first) (c .before .before .before .before .before .before .before .before .before .before .before .args .icfg .now) (c .before .before .before .before .before .before .before .before .if1 .taken), length-take-le (c .before .before .before .before .before .before .before .before .before .before .before .args .second) (c .before .before .before .before .before .before .before .before .before .before .before .args .icfg1 .now) (c .before .before .before .before .before .before .before .if2 .taken))
 
 returns-2 : tie.Need-returns-2
-returns-2 c = search needs
+unfolding madeWith
+returns-2 c = rw (le-leb _ _ (c .before .if1 .taken), lt-leb _ _ (c .if2 .left))
 
 returns-3 : tie.Need-returns-3
-returns-3 c = search needs
+unfolding madeWith
+returns-3 c = rw (lt-leb _ _ (c .if1 .left))
 
 pub made-with-spec : {M : Type 1} → statement M
 made-with-spec =

@@ -1,3 +1,5 @@
+use borrow.Author.Tests.{le-leb, lt-leb}
+use Rattle.refusals_whole.specs.Lent.{appliedIn}
 use lib.Seq.{length-take-le}
 use mathlib.Core.Path.{sym}
 use borrow.Author.Needs.{needs}
@@ -17,10 +19,12 @@ same-length : tie.Need-same-length
 same-length c = search needs
 
 returns : tie.Need-returns
-returns c = search needs
+unfolding appliedIn
+returns c = rw (le-leb _ _ (c .before .before .before .before .if1 .taken), c .before .before .apply .ensures .0, length-take-le (c .before .before .before .before .before .before .args .bytes) (c .before .before .before .before .before .before .args .queue .now) (c .before .before .before .before .if1 .taken))
 
 returns-2 : tie.Need-returns-2
-returns-2 c = search needs
+unfolding appliedIn
+returns-2 c = rw (lt-leb _ _ (c .if1 .left))
 
 pub applied-spec : {M : Type 1} → statement M
 applied-spec =

@@ -1,3 +1,5 @@
+use borrow.Author.Tests.{le-leb, lt-leb}
+use Rattle.refusals_whole.specs.Lent.{pushedIn}
 use lib.Seq.{length-take-le}
 use mathlib.Core.Path.{sym}
 use borrow.Author.Needs.{needs}
@@ -17,10 +19,12 @@ same-length : tie.Need-same-length
 same-length c = search needs
 
 returns : tie.Need-returns
-returns c = search needs
+unfolding pushedIn
+returns c = rw (le-leb _ _ (c .before .before .before .before .if1 .taken), c .before .before .push .ensures .0)
 
 returns-2 : tie.Need-returns-2
-returns-2 c = search needs
+unfolding pushedIn
+returns-2 c = rw (lt-leb _ _ (c .if1 .left))
 
 pub pushed-spec : {M : Type 1} → statement M
 pushed-spec =

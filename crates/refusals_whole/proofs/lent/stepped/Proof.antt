@@ -1,3 +1,5 @@
+use borrow.Author.Tests.{le-leb, lt-leb}
+use Rattle.refusals_whole.specs.Lent.{steppedOf}
 use lib.Seq.{length-take-le}
 use mathlib.Core.Path.{sym}
 use borrow.Author.Needs.{needs}
@@ -29,16 +31,20 @@ same-length-2 : tie.Need-same-length-2
 same-length-2 c = search needs
 
 returns : tie.Need-returns
-returns c = search needs
+unfolding steppedOf
+returns c = rw (le-leb _ _ (c .before .before .before .before .before .before .before .before .before .before .if1 .taken), le-leb _ _ (c .before .before .before .before .before .before .before .before .before .if2 .taken), le-leb _ _ (c .before .before .before .before .before .before .before .before .if3 .taken), c .before .before .before .before .advance .ensures .0)
 
 returns-2 : tie.Need-returns-2
-returns-2 c = search needs
+unfolding steppedOf
+returns-2 c = rw (le-leb _ _ (c .before .before .if1 .taken), le-leb _ _ (c .before .if2 .taken), lt-leb _ _ (c .if3 .left))
 
 returns-3 : tie.Need-returns-3
-returns-3 c = search needs
+unfolding steppedOf
+returns-3 c = rw (le-leb _ _ (c .before .if1 .taken), lt-leb _ _ (c .if2 .left))
 
 returns-4 : tie.Need-returns-4
-returns-4 c = search needs
+unfolding steppedOf
+returns-4 c = rw (lt-leb _ _ (c .if1 .left))
 
 pub stepped-spec : {M : Type 1} → statement M
 stepped-spec =
