@@ -161,32 +161,13 @@ pub fn spi2_cycles(bytes: u32, baud: u32, hz: u32) -> Cycles
 
 // ---- divider and watchdog ---------------------------------------------------
 
-// The prescaler of timers 0 to 3: CON bits 4 to 7 index it (the stock firmware's own copy reads the same).
-const TMR_DIV: [u32; 16] = [
-    1,
-    4,
-    16,
-    64,
-    2,
-    8,
-    32,
-    128,
-    256,
-    1024,
-    4096,
-    16384,
-    512,
-    2048,
-    8192,
-    32768,
-];
-
-// Of the code the low four bits count.
+// The prescaler of timers 0 to 3 by CON bits 4 to 7: four to the power of the two low bits, doubled by the third, times 256 by the fourth, and no other bit counts. All are powers of two, so one shift makes them; the original's
+// list of sixteen would take 64 bytes of constants.
 pub fn divider(code: u32) -> u32
     ensures { λ r. ⌜ r ≡ dividerOf code ⌝ }
     ensures bounded { λ r. ⌜ (1 ≤ r) × (r ≤ 32768) ⌝ }
 {
-    TMR_DIV[(code % 16) as usize]
+    1u32 << (code % 4 * 2 + code / 4 % 2 + code / 8 % 2 * 8)
 }
 
 // The watchdog's period for a WDT_CON byte, in ms: 1 ms doubling to 512 ms, then 1 s doubling to 32 s.
