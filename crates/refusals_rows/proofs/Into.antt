@@ -1,5 +1,5 @@
 -- `map` by a loop into another array: after i turns that put `f` of each element in its place, it has `into f i xs ys`. (base's MapTo is the loop that stays within one.)
-use mathlib.Core.Path.{_≡_, refl, ap}
+use mathlib.Core.Path.{_≡_, refl, ap, ap₂, _∙_}
 use mathlib.Core.List.{List, [], _∷_, map}
 use Prim.Native.Nat.{ℕ, zero, suc, _<_, _≤_, _+_}
 use native.Mathlib.Nat.{le-of-suc-le-suc, not-suc-le-zero, suc-inj}
@@ -22,9 +22,12 @@ module _ {A B : Type 0} (f : A → B) where
   into-suc (suc i) (x ∷ xs) [] d h = refl
   into-suc (suc i) (x ∷ xs) (y ∷ ys) d h = ap {B = List B} (λ r. f x ∷ r) (into-suc i xs ys d (le-of-suc-le-suc h))
 
-  -- a turn
-  pub into-more : (i : ℕ) (xs : List A) (ys : List B) (d : A) → i < length xs → set (into i xs ys) i (f (getD xs i d)) ≡ into (i + 1) xs ys
+  into-more : (i : ℕ) (xs : List A) (ys : List B) (d : A) → i < length xs → set (into i xs ys) i (f (getD xs i d)) ≡ into (i + 1) xs ys
   into-more i xs ys d h = rw add-one (into-suc i xs ys d h)
+
+  -- a turn, from what the loop knows
+  pub into-turn : (i : ℕ) (xs : List A) (ys zs : List B) (d : A) (y : B) → zs ≡ into i xs ys → y ≡ f (getD xs i d) → i < length xs → set zs i y ≡ into (i + 1) xs ys
+  into-turn i xs ys zs d y e g h = ap₂ (λ (l : List B) (v : B). set l i v) e g ∙ into-more i xs ys d h
 
   -- the end
   pub into-all : (i : ℕ) (xs : List A) (ys : List B) → length xs ≤ i → length ys ≡ length xs → into i xs ys ≡ map f xs

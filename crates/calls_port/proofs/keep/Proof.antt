@@ -3,11 +3,8 @@ use borrow.Author.Needs.{needs}
 use Rattle.calls_port.proofs.keep.Statement.{statement}
 use Rattle.calls_port.proofs.keep.Tie as tie
 
-number-requires : tie.Need-number-requires
-number-requires c κs = search needs
-
 returns : tie.Need-returns
 returns c = (rw (c .number .ensures), refl)
 
 pub keep-spec : {M : Type 1} → statement M
-keep-spec = tie.close (tie.spec number-requires returns)
+keep-spec = tie.close (search (needs, tie.spec, returns))

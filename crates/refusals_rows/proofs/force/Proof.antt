@@ -9,9 +9,6 @@ use borrow.Author.Needs.{needs}
 use Rattle.refusals_rows.proofs.force.Statement.{statement}
 use Rattle.refusals_rows.proofs.force.Tie as tie
 
-low-requires : tie.Need-low-requires
-low-requires c κs = search needs
-
 float-from-bits-result : tie.Need-float-from-bits-result
 float-from-bits-result c = number-bits (c .before .low .result) (c .if1 .taken)
 
@@ -24,4 +21,4 @@ unfolding forceFrom
 returns-2 c = no-number ∙ sym (nan-bits (c .before .low .result) (c .if1 .left)) ∙ ap (ofBits binary32) (c .before .low .ensures)
 
 pub force-spec : {M : Type 1} → statement M
-force-spec = tie.close (tie.spec low-requires float-from-bits-result returns returns-2)
+force-spec = tie.close (search (needs, tie.spec, float-from-bits-result, returns, returns-2))

@@ -4,30 +4,6 @@ use borrow.Author.Needs.{needs}
 use Rattle.refusals_limits.proofs.asks.set.Statement.{statement}
 use Rattle.refusals_limits.proofs.asks.set.Tie as tie
 
-set-cycle-ticks-requires : tie.Need-set-cycle-ticks-requires
-set-cycle-ticks-requires c κs = search needs
-
-set-skip-idle-requires : tie.Need-set-skip-idle-requires
-set-skip-idle-requires c κs = search needs
-
-set-in-isr-requires : tie.Need-set-in-isr-requires
-set-in-isr-requires c κs = search needs
-
-set-room-cap-requires : tie.Need-set-room-cap-requires
-set-room-cap-requires c κs = search needs
-
-set-exc-pending-requires : tie.Need-set-exc-pending-requires
-set-exc-pending-requires c κs = search needs
-
-set-spi2-pending-requires : tie.Need-set-spi2-pending-requires
-set-spi2-pending-requires c κs = search needs
-
-set-usb-requires : tie.Need-set-usb-requires
-set-usb-requires c κs = search needs
-
-set-wdt-requires : tie.Need-set-wdt-requires
-set-wdt-requires c κs = search needs
-
 returns : tie.Need-returns
 unfolding setOf
 returns c = rw (c .before .match .keys1, c .set-cycle-ticks .ensures)
@@ -61,22 +37,4 @@ unfolding setOf
 returns-8 c = rw (ne-eqb _ _ (c .before .match .rest .0 .0 .0 .0 .0 .0 .1), ne-eqb _ _ (c .before .match .rest .0 .0 .0 .0 .0 .1), ne-eqb _ _ (c .before .match .rest .0 .0 .0 .0 .1), ne-eqb _ _ (c .before .match .rest .0 .0 .0 .1), ne-eqb _ _ (c .before .match .rest .0 .0 .1), ne-eqb _ _ (c .before .match .rest .0 .1), ne-eqb _ _ (c .before .match .rest .1), c .set-wdt .ensures)
 
 pub set-spec : {M : Type 1} → statement M
-set-spec =
-    tie.close
-    (tie.spec
-    set-cycle-ticks-requires
-    set-skip-idle-requires
-    set-in-isr-requires
-    set-room-cap-requires
-    set-exc-pending-requires
-    set-spi2-pending-requires
-    set-usb-requires
-    set-wdt-requires
-    returns
-    returns-2
-    returns-3
-    returns-4
-    returns-5
-    returns-6
-    returns-7
-    returns-8)
+set-spec = tie.close (search (needs, tie.spec, returns, returns-2, returns-3, returns-4, returns-5, returns-6, returns-7, returns-8))

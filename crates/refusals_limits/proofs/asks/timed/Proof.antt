@@ -4,30 +4,6 @@ use borrow.Author.Needs.{needs}
 use Rattle.refusals_limits.proofs.asks.timed.Statement.{statement}
 use Rattle.refusals_limits.proofs.asks.timed.Tie as tie
 
-tick-requires : tie.Need-tick-requires
-tick-requires c κs = search needs
-
-tick-room-requires : tie.Need-tick-room-requires
-tick-room-requires c κs = search needs
-
-next-tick-due-requires : tie.Need-next-tick-due-requires
-next-tick-due-requires c κs = search needs
-
-idle-requires : tie.Need-idle-requires
-idle-requires c κs = search needs
-
-ms-requires : tie.Need-ms-requires
-ms-requires c κs = search needs
-
-cycle-of-ms-requires : tie.Need-cycle-of-ms-requires
-cycle-of-ms-requires c κs = search needs
-
-midi-queued-requires : tie.Need-midi-queued-requires
-midi-queued-requires c κs = search needs
-
-midi-dropped-requires : tie.Need-midi-dropped-requires
-midi-dropped-requires c κs = search needs
-
 returns : tie.Need-returns
 unfolding timedOf
 returns c = rw (c .before .match .keys1, c .tick .ensures)
@@ -61,22 +37,4 @@ unfolding timedOf
 returns-8 c = rw (ne-eqb _ _ (c .before .match .rest .0 .0 .0 .0 .0 .0 .1), ne-eqb _ _ (c .before .match .rest .0 .0 .0 .0 .0 .1), ne-eqb _ _ (c .before .match .rest .0 .0 .0 .0 .1), ne-eqb _ _ (c .before .match .rest .0 .0 .0 .1), ne-eqb _ _ (c .before .match .rest .0 .0 .1), ne-eqb _ _ (c .before .match .rest .0 .1), ne-eqb _ _ (c .before .match .rest .1), c .midi-dropped .ensures)
 
 pub timed-spec : {M : Type 1} → statement M
-timed-spec =
-    tie.close
-    (tie.spec
-    tick-requires
-    tick-room-requires
-    next-tick-due-requires
-    idle-requires
-    ms-requires
-    cycle-of-ms-requires
-    midi-queued-requires
-    midi-dropped-requires
-    returns
-    returns-2
-    returns-3
-    returns-4
-    returns-5
-    returns-6
-    returns-7
-    returns-8)
+timed-spec = tie.close (search (needs, tie.spec, returns, returns-2, returns-3, returns-4, returns-5, returns-6, returns-7, returns-8))

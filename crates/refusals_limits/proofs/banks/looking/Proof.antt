@@ -4,18 +4,6 @@ use borrow.Author.Needs.{needs}
 use Rattle.refusals_limits.proofs.banks.looking.Statement.{statement}
 use Rattle.refusals_limits.proofs.banks.looking.Tie as tie
 
-read-requires : tie.Need-read-requires
-read-requires c κs = search needs
-
-irq-enabled-requires : tie.Need-irq-enabled-requires
-irq-enabled-requires c κs = search needs
-
-pending-irq-for-requires : tie.Need-pending-irq-for-requires
-pending-irq-for-requires c κs = search needs
-
-pending-irq-requires : tie.Need-pending-irq-requires
-pending-irq-requires c κs = search needs
-
 returns : tie.Need-returns
 unfolding lookingOf
 returns c = rw (c .before .match .keys1, c .read .ensures)
@@ -33,14 +21,4 @@ unfolding lookingOf
 returns-4 c = rw (ne-eqb _ _ (c .before .match .rest .0 .0 .1), ne-eqb _ _ (c .before .match .rest .0 .1), ne-eqb _ _ (c .before .match .rest .1), c .pending-irq .ensures)
 
 pub looking-spec : {M : Type 1} → statement M
-looking-spec =
-    tie.close
-    (tie.spec
-    read-requires
-    irq-enabled-requires
-    pending-irq-for-requires
-    pending-irq-requires
-    returns
-    returns-2
-    returns-3
-    returns-4)
+looking-spec = tie.close (search (needs, tie.spec, returns, returns-2, returns-3, returns-4))

@@ -4,21 +4,6 @@ use borrow.Author.Needs.{needs}
 use Rattle.refusals_whole.proofs.asks.timed.Statement.{statement}
 use Rattle.refusals_whole.proofs.asks.timed.Tie as tie
 
-tick-requires : tie.Need-tick-requires
-tick-requires c κs = search needs
-
-idle-requires : tie.Need-idle-requires
-idle-requires c κs = search needs
-
-read-requires : tie.Need-read-requires
-read-requires c κs = search needs
-
-spi1-start-requires : tie.Need-spi1-start-requires
-spi1-start-requires c κs = search needs
-
-spi2-start-requires : tie.Need-spi2-start-requires
-spi2-start-requires c κs = search needs
-
 returns : tie.Need-returns
 unfolding timedOf
 returns c = rw (c .before .match .keys1, c .tick .ensures)
@@ -40,16 +25,4 @@ unfolding timedOf
 returns-5 c = rw (ne-eqb _ _ (c .before .match .rest .0 .0 .0 .1), ne-eqb _ _ (c .before .match .rest .0 .0 .1), ne-eqb _ _ (c .before .match .rest .0 .1), ne-eqb _ _ (c .before .match .rest .1), c .spi2-start .ensures)
 
 pub timed-spec : {M : Type 1} → statement M
-timed-spec =
-    tie.close
-    (tie.spec
-    tick-requires
-    idle-requires
-    read-requires
-    spi1-start-requires
-    spi2-start-requires
-    returns
-    returns-2
-    returns-3
-    returns-4
-    returns-5)
+timed-spec = tie.close (search (needs, tie.spec, returns, returns-2, returns-3, returns-4, returns-5))
