@@ -1,6 +1,8 @@
 // The SARADC (0x13100): CON (start is bit 6 with bit 4, done bit 7, channel bits 8 to 11) and RES, a value of ten bits. A conversion finishes at once, so a write of
 // CON concerns what is timed only where it moves the interrupt line. Channels 0 and 1 are the matrix rows on PA7 and PA8: a conversion there reads the keys of that row
 // in the selected columns, through the row's pull-up or its driver (crate pressure); any other channel, or a row that floats, its stored value.
+#![tactic(auto)]
+
 ghost use Rattle.std.specs.Prelude.{◌≡◌, ◌≤◌, ◌<◌, ◌^◌, Float};
 ghost use Rattle.keys.specs.Facts.{RampsShort};
 ghost use Rattle.keys.specs.Keys.{ramps_of};
@@ -26,7 +28,7 @@ use panel::{Map, Pins, Ramps, ramp_at};
 use pressure::{OPEN, Pin, next_noise, pin_of, sample, value};
 
 #[repr(C)]
-#[derive(Drop)]
+#[derive(Clone, Copy)]
 pub struct Adc {
     pub con: u32,
     pub noise: u32,
@@ -37,14 +39,14 @@ pub struct Adc {
 }
 
 // The record after a write of CON, and whether the write sets `next_due` to 0.
-#[derive(Drop)]
+#[derive(Clone, Copy)]
 pub struct Wrote {
     pub adc: Adc,
     pub due: bool,
 }
 
 // A value and the noise generator after it.
-#[derive(Drop)]
+#[derive(Clone, Copy)]
 pub struct Sampled {
     pub sample: u16,
     pub noise: u32,

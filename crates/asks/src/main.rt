@@ -21,14 +21,16 @@
 //
 // Words are separated by spaces, other numbers are decimal. Empty lines and lines that begin with `#` answer nothing. A line of more
 // than 4,096 bytes is answered `? = ?`.
+#![tactic(auto)]
+
 mod answers;
 
 use answers::answer;
 use line_answer::{Answer, LONG_LINE, put_line, two};
-use text::{Span, bytes_of, first, line_end, put_text};
+use text::{STDIN, STDOUT, Span, bytes_of, first, line_end, put_text};
 
 // The line so far, and the answers that wait.
-#[derive(Drop)]
+#[derive(Clone, Copy)]
 struct Went {
     line: usize,
     out: usize,
@@ -42,7 +44,7 @@ fn main() {
     let mut turns = u64::MAX;
     while 0 < turns {
         turns = turns - 1;
-        let got = io::read_full(libc::STDIN_FILENO, &mut input);
+        let got = io::read_full(STDIN, &mut input);
         if got == 0 {
             break;
         }
@@ -104,5 +106,5 @@ fn flushed(out: &[u8], to: usize) -> usize {
 }
 
 fn flush(out: &[u8], n: usize) {
-    io::write_all(libc::STDOUT_FILENO, first(out, n));
+    io::write_all(STDOUT, first(out, n));
 }

@@ -1,4 +1,6 @@
 // A record at an offset of some bytes, as an answer that `line_answer` shows: its time and action, or what it orders, and where the next one begins.
+#![tactic(auto)]
+
 mod again;
 
 ghost use Rattle.std.specs.Prelude.{◌≡◌, ◌≤◌};

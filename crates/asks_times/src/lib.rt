@@ -1,5 +1,7 @@
 // Times and forces by lines of text, as `asks` takes them: a question's number, or `Not` where the line asks nothing that is known here or lies outside
 // 01's domain. `line_ask` reads the words: a list says which questions there are and what numbers they take. The rate is the last number.
+#![tactic(auto)]
+
 mod conversions;
 mod force;
 

@@ -1,5 +1,7 @@
 // ALNK0 (0x12e00): I2S out, a double-buffered DMA of LEN words a half at 44.1 kHz. A finished half pends, toggles CON0 bit 15 and hands out
 // where it lies; the host moves it. One half a step: a backlog stays due, and comes a half at a time.
+#![tactic(auto)]
+
 ghost use Rattle.std.specs.Prelude.{◌≡◌, ◌^◌, ◌<◌, ◌≤◌};
 ghost use Rattle.base.specs.Moments.{clock_max};
 ghost use Rattle.audio.specs.Audio.{
@@ -22,7 +24,7 @@ use base::{NEVER, most, switched};
 use times::{Cycles, Mhz24};
 
 #[repr(C)]
-#[derive(Drop)]
+#[derive(Clone, Copy)]
 pub struct Audio {
     pub next: u64,
     // halves played, a count that wraps
@@ -38,13 +40,13 @@ pub struct Audio {
 }
 
 // A half buffer that finished playing: its address and its words.
-#[derive(Drop)]
+#[derive(Clone, Copy)]
 pub enum Half {
     Done { addr: u32, words: u32 },
     None,
 }
 
-#[derive(Drop)]
+#[derive(Clone, Copy)]
 pub struct Played {
     pub audio: Audio,
     pub half: Half,

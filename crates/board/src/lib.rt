@@ -1,6 +1,8 @@
 // The board's public calls, all of them under one name: registers here, making a board, an action by hand and a reset in `steps`, and those of `board_runner`. Each takes the record by value, tests what
 // it is given in document 01's order and answers; a call that is turned away says why by 01's number and leaves record and lent memory as they were. Calls that change the record hand it back;
 // the others answer what was asked. The work is done below, by `regs`, `step` and `runner`, whose functions of the same names ask for a whole record and test nothing.
+#![tactic(auto)]
+
 mod steps;
 
 ghost use Rattle.std.specs.Prelude.{◌≡◌, length};
@@ -21,7 +23,7 @@ use regs::Value;
 use state::Board;
 pub use steps::{apply, chip_reset, made};
 
-#[derive(Drop)]
+#[derive(Clone, Copy)]
 pub struct Reading {
     pub board: Board,
     pub refused: u32,
@@ -29,7 +31,7 @@ pub struct Reading {
 }
 
 #[repr(C)]
-#[derive(Drop)]
+#[derive(Clone, Copy)]
 pub struct Written {
     pub board: Board,
     pub refused: u32,

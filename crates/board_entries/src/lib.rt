@@ -1,5 +1,7 @@
 // The step and the push over a script that is lent as entries. Both answer for any record and any lent lengths. Their loops read one entry at a time and leave everything else to
 // crate `step`; no field of a record that holds the board is read here, so that the proofs need not know what such a record is.
+#![tactic(auto)]
+
 ghost use Rattle.std.specs.Prelude.{◌≡◌, length};
 ghost use Rattle.board.specs.Steps.{new_refused, new_call, new_bank};
 ghost use Rattle.script.specs.Entries.{entries_at};

@@ -1,5 +1,7 @@
 // The calls of `board_entries` for whoever holds the script by value. A caller that lends entries is proved by a walk of its code, and so is a bridge; whoever calls a bridge need not be.
 // A bridge lends its own copy of the script and answers as the call does.
+#![tactic(auto)]
+
 ghost use Rattle.std.specs.Prelude.{◌≡◌, length};
 ghost use Rattle.board.specs.Steps.{new_refused, new_call, new_bank};
 ghost use Rattle.board_entries.specs.Entries.{spot_in, stored_at};
@@ -13,7 +15,7 @@ use state::Board;
 use step::Stepped;
 
 // What a push answers, and the script after it.
-#[derive(Drop)]
+#[derive(Clone, Copy)]
 pub struct Held {
     pub pushing: Done,
     pub script: [Entry; SCRIPT_LEN],

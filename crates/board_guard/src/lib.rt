@@ -1,5 +1,7 @@
 // What every public call begins with, and how one ends that hands the record back: is the record whole, do the banks have their lengths, by document 01's numbers; turned away, with the record as
 // it was, or accepted, with the chip that the call made.
+#![tactic(auto)]
+
 ghost use Rattle.std.specs.Prelude.{◌≡◌, not};
 ghost use Rattle.state.specs.State.{board_whole};
 ghost use Rattle.board_guard.specs.Answers.{answered, turned_of, done_of};
@@ -11,7 +13,7 @@ use state::{Board, Chip};
 pub const BANK_WORDS: usize = 32;
 
 #[repr(C)]
-#[derive(Drop)]
+#[derive(Clone, Copy)]
 pub struct Done {
     pub board: Board,
     pub refused: u32,

@@ -1,6 +1,8 @@
 // The public calls of a runner between steps: ticks and idle time, the choice of an interrupt, LEDs, SPI and the shift register, times and counts, settings. Each takes the record by value,
 // tests what it is given in document 01's order and answers; a call that is turned away says why by 01's number and leaves the record as it was. The work is done by `runner`, whose functions of
 // the same names ask for a whole record and test nothing.
+#![tactic(auto)]
+
 ghost use Rattle.std.specs.Prelude.{◌≡◌};
 ghost use Rattle.board_runner.specs.Calls.{tick_call, room_call, next_due_call, idle_call, any_call, enabled_call, choice_call, led_call, spi1_call, spi2_call, spi1_off_call, shift_call, ms_call, cycles_call, queued_call, dropped_call, ticks_call, skip_call, isr_call, cap_call, exc_call, spi2_flag_call, usb_call, wdt_call};
 
@@ -13,7 +15,7 @@ use irq::{Choice, irq_enabled as enabled};
 use state::Board;
 
 #[repr(C)]
-#[derive(Drop)]
+#[derive(Clone, Copy)]
 pub struct Ticked {
     pub board: Board,
     pub refused: u32,
@@ -21,7 +23,7 @@ pub struct Ticked {
 }
 
 #[repr(C)]
-#[derive(Drop)]
+#[derive(Clone, Copy)]
 pub struct Lit {
     pub board: Board,
     pub lit: [u64; 41],
@@ -30,20 +32,20 @@ pub struct Lit {
 }
 
 #[repr(C)]
-#[derive(Drop)]
+#[derive(Clone, Copy)]
 pub struct Flag {
     pub refused: u32,
     pub is: bool,
 }
 
 #[repr(C)]
-#[derive(Drop)]
+#[derive(Clone, Copy)]
 pub struct Number {
     pub value: u64,
     pub refused: u32,
 }
 
-#[derive(Drop)]
+#[derive(Clone, Copy)]
 pub struct Chosen {
     pub refused: u32,
     pub choice: Choice,

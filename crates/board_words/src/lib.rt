@@ -1,5 +1,7 @@
 // A new board, the step and the push for whoever holds the script as plain words, two an entry: its time, and its action as `script::word_of` packs it. Programs do, and so does the boundary to C. The
 // calls answer for any record and any lent lengths, with the refusals of the same calls over entries; 512 words are a script.
+#![tactic(auto)]
+
 ghost use Rattle.std.specs.Prelude.{◌≡◌, length, get_or};
 ghost use Rattle.board.specs.Steps.{new_refused, new_call, new_bank};
 ghost use Rattle.script.specs.Words.{word_of, words_at, places_in};

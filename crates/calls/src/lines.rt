@@ -3,13 +3,13 @@ ghost use Rattle.std.specs.Prelude.{◌≡◌, ◌<◌};
 ghost use Rattle.calls.specs.Lines.{reader_new, begun_of, Filled, line_after, went_to, taken_of};
 
 use line_ask::LINE;
-use text::{Span, bytes_of, first, line_end, put_text};
+use text::{STDIN, Span, bytes_of, first, line_end, put_text};
 
 // Room for what is read or written at once.
 pub const BUFFER: usize = 65536;
 
 // Where the bytes that were read go on, how long the line is, whether it has ended, and whether the input has.
-#[derive(Drop)]
+#[derive(Clone, Copy)]
 pub struct Reader {
     pub at: usize,
     pub got: usize,
@@ -57,7 +57,7 @@ pub fn filled(input: &mut [u8; BUFFER], mut r: Reader) -> Reader
     if r.at < r.got {
         return r;
     }
-    let got = io::read_full(libc::STDIN_FILENO, input);
+    let got = io::read_full(STDIN, input);
     r.at = 0;
     r.got = got;
     r.whole = got == 0;

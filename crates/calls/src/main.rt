@@ -30,6 +30,8 @@
 // Actions are `key ID DOWN`, `enc ENC CLICKS`, `adc CH VALUE`, `midi B`, `vel VEL` and `pressure ID VEL`. Addresses and values are hex, other numbers
 // decimal. A call that is refused answers `E` and the refusal's number, where its result is not that number itself. Empty lines and lines that
 // begin with `#` answer nothing. A line of more than 4,096 bytes is answered `? = ?`.
+#![tactic(auto)]
+
 mod lines;
 mod written;
 

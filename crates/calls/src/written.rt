@@ -6,7 +6,7 @@ ghost use Rattle.calls.specs.Waiting.{place_for, answered_text};
 use crate::lines::BUFFER;
 use line_answer::Answer;
 use line_ask::LINE;
-use text::first;
+use text::{STDOUT, first};
 
 // Those that wait are written out before there could be no room for this one.
 pub fn put_line(
@@ -37,6 +37,6 @@ fn flushed(out: &[u8; BUFFER], to: usize) -> usize
 pub fn flush(out: &[u8; BUFFER], n: usize) -> usize
     ensures { result ≡ 0 }
 {
-    io::write_all(libc::STDOUT_FILENO, first(out, n));
+    io::write_all(STDOUT, first(out, n));
     0
 }

@@ -1,5 +1,7 @@
 // What a call came to, as the answer that `line_answer` shows, and the action that a line names. Nothing is carried out here: `calls_unlent`, `calls_lent` and `calls_board` do. The
 // numbers of calls, kinds and forms are those of `line_ask` and `line_answer`.
+#![tactic(auto)]
+
 ghost use Rattle.std.specs.Prelude.{◌≡◌};
 ghost use Rattle.calls_answers.specs.Outcomes.{action_of, step_answer, with_half, without_half, read_answer, when_skipping, told_of, is_numbered, acknowledged_as, plain_of};
 
@@ -16,7 +18,7 @@ use state::{Board, Clock};
 use uart::Byte;
 
 // The board after a call, and the answer.
-#[derive(Drop)]
+#[derive(Clone, Copy)]
 pub struct Boarded {
     pub board: Board,
     pub answer: Answer,
@@ -49,7 +51,7 @@ pub fn action(a: Ask) -> Action
 // ---- a step
 
 // What a step answers at the end.
-#[derive(Drop)]
+#[derive(Clone, Copy)]
 pub struct Rest {
     pub usb: u64,
     pub wdt: u64,

@@ -1,5 +1,7 @@
 // What a line asks of the board, carried out: by the memory that its call is lent, the bytes behind the jack, the script as words, the banks; `lights` takes the
 // LEDs' times. The calls themselves are in `calls_unlent` and `calls_lent`, but for a new board and a reset.
+#![tactic(auto)]
+
 ghost use Rattle.std.specs.Prelude.{◌≡◌};
 ghost use Rattle.board.specs.Steps.{new_bank, reset_first, reset_second};
 ghost use Rattle.calls_board.specs.Boards.{kept, renewed_of, made_refused, reset_of, is_deed, other_of, banked_of, first_after, second_after, boarded_of, queue_after, script_after, lights_after};

@@ -1,5 +1,7 @@
 // The board's calls for `calls` that are lent memory, the script as words, the bytes behind the jack, the LEDs' times or the banks: each carried out as a line asks,
 // and what it answers.
+#![tactic(auto)]
+
 ghost use Rattle.std.specs.Prelude.{◌≡◌};
 ghost use Rattle.board_runner.specs.Calls.{led_call};
 ghost use Rattle.board.specs.Calls.{write_first, write_second};

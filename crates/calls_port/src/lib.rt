@@ -1,5 +1,7 @@
 // The port's calls for `calls`: the port and its register memory, lent, and one that was kept aside with its registers. Writes, resets and taken events go through
 // the record that is lent by `&mut`, so that what is compared with the original is that form.
+#![tactic(auto)]
+
 ghost use Rattle.std.specs.Prelude.{◌≡◌};
 ghost use Rattle.calls_port.specs.Ports.{
   is_of_port,
@@ -29,13 +31,13 @@ use line_ask::{
 use p33::{Compared, Done, Event, P33, Snap, Value};
 use std::num::wrapping_add_u64;
 
-#[derive(Drop)]
+#[derive(Clone, Copy)]
 pub struct Ports {
     pub port: P33,
     pub kept: P33,
 }
 
-#[derive(Drop)]
+#[derive(Clone, Copy)]
 pub struct Ported {
     pub ports: Ports,
     pub answer: Answer,

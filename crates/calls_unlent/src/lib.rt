@@ -1,5 +1,7 @@
 // The board's calls for `calls` that are lent nothing, and those that only look: each carried out as a line asks, and what it answers. The numbers of calls and
 // forms are those of `line_ask` and `line_answer`.
+#![tactic(auto)]
+
 mod looks;
 
 ghost use Rattle.std.specs.Prelude.{◌≡◌};

@@ -19,8 +19,7 @@ use state::Board;
 // ---- making a board, steps, actions, reset
 
 // A new board at `hz`; queue and script are left alone, the banks are zeroed. CLOCK, SIZE.
-#[unsafe(no_mangle)]
-pub extern "C" fn fm1_new(
+pub fn fm1_new(
     hz: u64,
     queue: &[u8],
     script: &[u64],
@@ -35,8 +34,7 @@ pub extern "C" fn fm1_new(
 }
 
 // The step: the clock goes on by `cycles`, and what is due by then is served. SIZE, STATE, COUNT, TIME.
-#[unsafe(no_mangle)]
-pub extern "C" fn fm1_advance(
+pub fn fm1_advance(
     b: Board,
     cycles: u64,
     queue: &mut [u8],
@@ -51,8 +49,7 @@ pub extern "C" fn fm1_advance(
 }
 
 // An action for the step that reaches `time`. SIZE, STATE, FULL.
-#[unsafe(no_mangle)]
-pub extern "C" fn fm1_push(b: Board, script: &mut [u64], time: u64, action: u64) -> Done
+pub fn fm1_push(b: Board, script: &mut [u64], time: u64, action: u64) -> Done
     ensures { (result ≡ pushed_of (spot_in b script.old time))
         × (script.new ≡ stored_words (spot_in b script.old time) script.old time (word_of (action_of action))) }
 {
@@ -61,8 +58,7 @@ pub extern "C" fn fm1_push(b: Board, script: &mut [u64], time: u64, action: u64)
 }
 
 // An action now. SIZE, STATE, COUNT.
-#[unsafe(no_mangle)]
-pub extern "C" fn fm1_apply(b: Board, action: u64, queue: &mut [u8]) -> Done
+pub fn fm1_apply(b: Board, action: u64, queue: &mut [u8]) -> Done
     ensures value { result ≡ apply_call b (action_of action) (length queue.old) }
     ensures memory { queue.new ≡ apply_queue b (action_of action) queue.old }
 {
@@ -71,8 +67,7 @@ pub extern "C" fn fm1_apply(b: Board, action: u64, queue: &mut [u8]) -> Done
 }
 
 // A chip reset. SIZE, STATE.
-#[unsafe(no_mangle)]
-pub extern "C" fn fm1_chip_reset(b: Board, icfg: &mut [u32], icfg1: &mut [u32]) -> Done
+pub fn fm1_chip_reset(b: Board, icfg: &mut [u32], icfg1: &mut [u32]) -> Done
     ensures value { result ≡ reset_call b (length icfg.old) (length icfg1.old) }
     ensures first { icfg.new ≡ reset_first b icfg.old icfg1.old }
     ensures second { icfg1.new ≡ reset_second b icfg.old icfg1.old }
@@ -83,16 +78,14 @@ pub extern "C" fn fm1_chip_reset(b: Board, icfg: &mut [u32], icfg1: &mut [u32]) 
 // ---- registers
 
 // A register's value; none where the word is plain storage. SIZE, STATE, TIME.
-#[unsafe(no_mangle)]
-pub extern "C" fn fm1_read<'a>(b: Board, addr: u32, icfg: &'a [u32], icfg1: &'a [u32]) -> Reading
+pub fn fm1_read<'a>(b: Board, addr: u32, icfg: &'a [u32], icfg1: &'a [u32]) -> Reading
     ensures { result ≡ of_reading (read_call b addr icfg.now icfg1.now) }
 {
     of_reading(board::read(b, addr, icfg, icfg1))
 }
 
 // Whether the word is a register (`handled`). SIZE, STATE.
-#[unsafe(no_mangle)]
-pub extern "C" fn fm1_write(
+pub fn fm1_write(
     b: Board,
     addr: u32,
     v: u32,
@@ -109,32 +102,28 @@ pub extern "C" fn fm1_write(
 // ---- ticks and idle time
 
 // A tick of the runner; whether a step is due. STATE, TIME.
-#[unsafe(no_mangle)]
-pub extern "C" fn fm1_tick(b: Board) -> Ticked
+pub fn fm1_tick(b: Board) -> Ticked
     ensures { result ≡ tick_call b }
 {
     board::tick(b)
 }
 
 // How many cycles until a step is due. STATE.
-#[unsafe(no_mangle)]
-pub extern "C" fn fm1_tick_room(b: Board) -> Number
+pub fn fm1_tick_room(b: Board) -> Number
     ensures { result ≡ room_call b }
 {
     board::tick_room(b)
 }
 
 // Whether the next tick makes a step due. STATE.
-#[unsafe(no_mangle)]
-pub extern "C" fn fm1_next_tick_due(b: Board) -> Flag
+pub fn fm1_next_tick_due(b: Board) -> Flag
     ensures { result ≡ next_due_call b }
 {
     board::next_tick_due(b)
 }
 
 // Jumps over idle time. STATE, TIME.
-#[unsafe(no_mangle)]
-pub extern "C" fn fm1_idle(b: Board) -> Done
+pub fn fm1_idle(b: Board) -> Done
     ensures { result ≡ idle_call b }
 {
     board::idle(b)
@@ -143,16 +132,14 @@ pub extern "C" fn fm1_idle(b: Board) -> Done
 // ---- interrupts
 
 // Whether any source pends. STATE.
-#[unsafe(no_mangle)]
-pub extern "C" fn fm1_any_pending(b: Board) -> Flag
+pub fn fm1_any_pending(b: Board) -> Flag
     ensures { result ≡ any_call b }
 {
     board::any_pending(b)
 }
 
 // Whether a core has a source enabled. SIZE, STATE.
-#[unsafe(no_mangle)]
-pub extern "C" fn fm1_irq_enabled<'a>(
+pub fn fm1_irq_enabled<'a>(
     b: Board,
     core: u32,
     n: u8,
@@ -165,8 +152,7 @@ pub extern "C" fn fm1_irq_enabled<'a>(
 }
 
 // The interrupt that a core takes. SIZE, STATE.
-#[unsafe(no_mangle)]
-pub extern "C" fn fm1_pending_irq_for<'a>(
+pub fn fm1_pending_irq_for<'a>(
     b: Board,
     core: u32,
     icfg: &'a [u32],
@@ -178,8 +164,7 @@ pub extern "C" fn fm1_pending_irq_for<'a>(
 }
 
 // Core 0's. SIZE, STATE.
-#[unsafe(no_mangle)]
-pub extern "C" fn fm1_pending_irq<'a>(b: Board, icfg: &'a [u32], icfg1: &'a [u32]) -> Chosen
+pub fn fm1_pending_irq<'a>(b: Board, icfg: &'a [u32], icfg1: &'a [u32]) -> Chosen
     ensures { result ≡ of_chosen (choice_call b 0 icfg.now icfg1.now) }
 {
     of_chosen(board::pending_irq(b, icfg, icfg1))
@@ -188,8 +173,7 @@ pub extern "C" fn fm1_pending_irq<'a>(b: Board, icfg: &'a [u32], icfg1: &'a [u32
 // ---- LEDs
 
 // How long each LED was lit since the last call, and over how long. STATE.
-#[unsafe(no_mangle)]
-pub extern "C" fn fm1_led_take(b: Board) -> Lit
+pub fn fm1_led_take(b: Board) -> Lit
     ensures { result ≡ led_call b }
 {
     board::led_take(b)
@@ -198,32 +182,28 @@ pub extern "C" fn fm1_led_take(b: Board) -> Lit
 // ---- SPI and the shift register
 
 // A transfer on SPI1. STATE, PARAM, COUNT.
-#[unsafe(no_mangle)]
-pub extern "C" fn fm1_spi1_start(b: Board, bytes: u32, baud: u32, irq: u8) -> Done
+pub fn fm1_spi1_start(b: Board, bytes: u32, baud: u32, irq: u8) -> Done
     ensures { result ≡ spi1_call b bytes baud (is_yes irq) }
 {
     board::spi1_start(b, bytes, baud, irq != 0)
 }
 
 // A transfer on SPI2. STATE, PARAM.
-#[unsafe(no_mangle)]
-pub extern "C" fn fm1_spi2_start(b: Board, bytes: u32, baud: u32, irq: u8) -> Done
+pub fn fm1_spi2_start(b: Board, bytes: u32, baud: u32, irq: u8) -> Done
     ensures { result ≡ spi2_call b bytes baud (is_yes irq) }
 {
     board::spi2_start(b, bytes, baud, irq != 0)
 }
 
 // SPI1's interrupt off. STATE.
-#[unsafe(no_mangle)]
-pub extern "C" fn fm1_spi1_irq_off(b: Board) -> Done
+pub fn fm1_spi1_irq_off(b: Board) -> Done
     ensures { result ≡ spi1_off_call b }
 {
     board::spi1_irq_off(b)
 }
 
 // A byte into the matrix's shift registers. STATE.
-#[unsafe(no_mangle)]
-pub extern "C" fn fm1_sr_shift_byte(b: Board, byte: u8) -> Done
+pub fn fm1_sr_shift_byte(b: Board, byte: u8) -> Done
     ensures { result ≡ shift_call b byte }
 {
     board::sr_shift_byte(b, byte)
@@ -232,32 +212,28 @@ pub extern "C" fn fm1_sr_shift_byte(b: Board, byte: u8) -> Done
 // ---- times and counts
 
 // The clock in milliseconds. STATE.
-#[unsafe(no_mangle)]
-pub extern "C" fn fm1_ms(b: Board) -> Number
+pub fn fm1_ms(b: Board) -> Number
     ensures { result ≡ ms_call b }
 {
     board::ms(b)
 }
 
 // Milliseconds in cycles. STATE, PARAM.
-#[unsafe(no_mangle)]
-pub extern "C" fn fm1_cycle_of_ms(b: Board, ms: u64) -> Number
+pub fn fm1_cycle_of_ms(b: Board, ms: u64) -> Number
     ensures { result ≡ cycles_call b ms }
 {
     board::cycle_of_ms(b, ms)
 }
 
 // MIDI bytes that wait to arrive. STATE.
-#[unsafe(no_mangle)]
-pub extern "C" fn fm1_midi_queued(b: Board) -> Number
+pub fn fm1_midi_queued(b: Board) -> Number
     ensures { result ≡ queued_call b }
 {
     board::midi_queued(b)
 }
 
 // MIDI bytes dropped. STATE.
-#[unsafe(no_mangle)]
-pub extern "C" fn fm1_midi_dropped(b: Board) -> Number
+pub fn fm1_midi_dropped(b: Board) -> Number
     ensures { result ≡ dropped_call b }
 {
     board::midi_dropped(b)
@@ -266,64 +242,56 @@ pub extern "C" fn fm1_midi_dropped(b: Board) -> Number
 // ---- settings
 
 // Cycles a tick. STATE.
-#[unsafe(no_mangle)]
-pub extern "C" fn fm1_set_cycle_ticks(b: Board, ticks: u64) -> Done
+pub fn fm1_set_cycle_ticks(b: Board, ticks: u64) -> Done
     ensures { result ≡ ticks_call b ticks }
 {
     board::set_cycle_ticks(b, ticks)
 }
 
 // Whether count reads skip idle time. STATE.
-#[unsafe(no_mangle)]
-pub extern "C" fn fm1_set_skip_idle(b: Board, on: u8) -> Done
+pub fn fm1_set_skip_idle(b: Board, on: u8) -> Done
     ensures { result ≡ skip_call b (is_yes on) }
 {
     board::set_skip_idle(b, on != 0)
 }
 
 // Whether an interrupt is being served. STATE.
-#[unsafe(no_mangle)]
-pub extern "C" fn fm1_set_in_isr(b: Board, on: u8) -> Done
+pub fn fm1_set_in_isr(b: Board, on: u8) -> Done
     ensures { result ≡ isr_call b (is_yes on) }
 {
     board::set_in_isr(b, on != 0)
 }
 
 // The most cycles that `fm1_tick_room` answers. STATE.
-#[unsafe(no_mangle)]
-pub extern "C" fn fm1_set_room_cap(b: Board, cap: u64) -> Done
+pub fn fm1_set_room_cap(b: Board, cap: u64) -> Done
     ensures { result ≡ cap_call b cap }
 {
     board::set_room_cap(b, cap)
 }
 
 // Whether an exception pends. STATE.
-#[unsafe(no_mangle)]
-pub extern "C" fn fm1_set_exc_pending(b: Board, on: u8) -> Done
+pub fn fm1_set_exc_pending(b: Board, on: u8) -> Done
     ensures { result ≡ exc_call b (is_yes on) }
 {
     board::set_exc_pending(b, on != 0)
 }
 
 // Whether SPI2 pends. STATE.
-#[unsafe(no_mangle)]
-pub extern "C" fn fm1_set_spi2_pending(b: Board, on: u8) -> Done
+pub fn fm1_set_spi2_pending(b: Board, on: u8) -> Done
     ensures { result ≡ spi2_flag_call b (is_yes on) }
 {
     board::set_spi2_pending(b, on != 0)
 }
 
 // A USB frame's deadline (all ones: never) and its period. STATE, PARAM.
-#[unsafe(no_mangle)]
-pub extern "C" fn fm1_set_usb(b: Board, at: u64, period: u64) -> Done
+pub fn fm1_set_usb(b: Board, at: u64, period: u64) -> Done
     ensures { result ≡ usb_call b at period }
 {
     board::set_usb(b, at, period)
 }
 
 // The watchdog's deadline (all ones: never). STATE, PARAM.
-#[unsafe(no_mangle)]
-pub extern "C" fn fm1_set_wdt(b: Board, at: u64) -> Done
+pub fn fm1_set_wdt(b: Board, at: u64) -> Done
     ensures { result ≡ wdt_call b at }
 {
     board::set_wdt(b, at)
@@ -332,16 +300,14 @@ pub extern "C" fn fm1_set_wdt(b: Board, at: u64) -> Done
 // ---- names
 
 // A key's id, or `is` 0.
-#[unsafe(no_mangle)]
-pub extern "C" fn fm1_key_id(name: &[u8]) -> Said
+pub fn fm1_key_id(name: &[u8]) -> Said
     ensures { result ≡ of_id (key_id_of name.now) }
 {
     of_id(names::key_id(name))
 }
 
 // An encoder's id, or `is` 0.
-#[unsafe(no_mangle)]
-pub extern "C" fn fm1_enc_id(name: &[u8]) -> Said
+pub fn fm1_enc_id(name: &[u8]) -> Said
     ensures { result ≡ of_id (enc_id_of name.now) }
 {
     of_id(names::enc_id(name))

@@ -6,8 +6,7 @@ use capi_answers::marks::marked;
 use state::Board;
 
 // A record that marks its fields. It is not whole.
-#[unsafe(no_mangle)]
-pub extern "C" fn fm1_marks() -> Board
+pub fn fm1_marks() -> Board
     ensures { result ≡ marks }
 {
     marked()

@@ -25,8 +25,7 @@ use capi_answers::{Port, PortAnswered, Said};
 use p33::P33;
 
 // A port at power-on; its memory is zeroed. SIZE.
-#[unsafe(no_mangle)]
-pub extern "C" fn fm1_port_new(regs: &mut [u8]) -> PortAnswered
+pub fn fm1_port_new(regs: &mut [u8]) -> PortAnswered
     ensures value { result ≡ of_port_new (new_of regs.old) }
     ensures memory { regs.new ≡ new_in regs.old }
 {
@@ -34,8 +33,7 @@ pub extern "C" fn fm1_port_new(regs: &mut [u8]) -> PortAnswered
 }
 
 // CON or DAT.
-#[unsafe(no_mangle)]
-pub extern "C" fn fm1_port_read(p: Port, addr: u32) -> u32
+pub fn fm1_port_read(p: Port, addr: u32) -> u32
     ensures { result ≡ read_of (port_in p) addr }
 {
     let q = port_in(p);
@@ -43,8 +41,7 @@ pub extern "C" fn fm1_port_read(p: Port, addr: u32) -> u32
 }
 
 // A write to CON or DAT. SIZE, COUNT.
-#[unsafe(no_mangle)]
-pub extern "C" fn fm1_port_write(p: Port, regs: &mut [u8], addr: u32, value: u32) -> PortAnswered
+pub fn fm1_port_write(p: Port, regs: &mut [u8], addr: u32, value: u32) -> PortAnswered
     ensures { (result ≡ of_port_done p (write_of (port_in p) regs.old addr value)) × (regs.new ≡ write_in (port_in p) regs.old addr value) }
 {
     let q = port_in(p);
@@ -52,8 +49,7 @@ pub extern "C" fn fm1_port_write(p: Port, regs: &mut [u8], addr: u32, value: u32
 }
 
 // A chip reset and its cause. SIZE, COUNT.
-#[unsafe(no_mangle)]
-pub extern "C" fn fm1_port_chip_reset(p: Port, regs: &mut [u8], cause: u8) -> PortAnswered
+pub fn fm1_port_chip_reset(p: Port, regs: &mut [u8], cause: u8) -> PortAnswered
     ensures { (result ≡ of_port_done p (reset_of (port_in p) regs.old)) × (regs.new ≡ reset_in (port_in p) regs.old cause) }
 {
     let q = port_in(p);
@@ -61,8 +57,7 @@ pub extern "C" fn fm1_port_chip_reset(p: Port, regs: &mut [u8], cause: u8) -> Po
 }
 
 // The event, as `value`; it is taken.
-#[unsafe(no_mangle)]
-pub extern "C" fn fm1_port_take_event(p: Port) -> PortAnswered
+pub fn fm1_port_take_event(p: Port) -> PortAnswered
     ensures { result ≡ of_taken (taken_of (port_in p)) }
 {
     let q = port_in(p);
@@ -70,16 +65,14 @@ pub extern "C" fn fm1_port_take_event(p: Port) -> PortAnswered
 }
 
 // A register of the main domain, or of the RTC's where `rtc` is not 0. SIZE.
-#[unsafe(no_mangle)]
-pub extern "C" fn fm1_port_reg(regs: &[u8], addr: u16, rtc: u8) -> Said
+pub fn fm1_port_reg(regs: &[u8], addr: u16, rtc: u8) -> Said
     ensures { result ≡ of_register (reg_of regs.now addr (is_yes rtc)) }
 {
     of_register(P33::reg(regs, addr, rtc != 0))
 }
 
 // Whether two ports are the same. SIZE.
-#[unsafe(no_mangle)]
-pub extern "C" fn fm1_port_same(a: Port, regs_a: &[u8], b: Port, regs_b: &[u8]) -> Said
+pub fn fm1_port_same(a: Port, regs_a: &[u8], b: Port, regs_b: &[u8]) -> Said
     ensures { result ≡ of_compared (same_of (port_in a) regs_a.now (port_in b) regs_b.now) }
 {
     let p = port_in(a);
@@ -88,8 +81,7 @@ pub extern "C" fn fm1_port_same(a: Port, regs_a: &[u8], b: Port, regs_b: &[u8]) 
 }
 
 // Whether one port at two times has equal snaps.
-#[unsafe(no_mangle)]
-pub extern "C" fn fm1_port_same_snap(a: Port, b: Port) -> u32
+pub fn fm1_port_same_snap(a: Port, b: Port) -> u32
     ensures { result ≡ when_of (same_snap (snap_of (port_in a)) (snap_of (port_in b))) 1 }
 {
     let p = port_in(a);
@@ -100,8 +92,7 @@ pub extern "C" fn fm1_port_same_snap(a: Port, b: Port) -> u32
 }
 
 // The watchdog's period in ms for a control byte.
-#[unsafe(no_mangle)]
-pub extern "C" fn fm1_wdt_ms(con: u8) -> u64
+pub fn fm1_wdt_ms(con: u8) -> u64
     ensures { result ≡ wdt_ms con }
 {
     P33::wdt_ms(con)

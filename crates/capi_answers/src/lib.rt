@@ -1,4 +1,6 @@
 // The calls' answers as plain numbers, for callers that have no enums: a flag is 0 or 1, an answer that may be none has a flag beside it. Inner functions of the boundary to C (crate `capi`).
+#![tactic(auto)]
+
 pub mod marks;
 pub mod ports;
 
@@ -30,7 +32,7 @@ use uart::Byte;
 
 // A number, or a flag, and the refusal's number (0: done).
 #[repr(C)]
-#[derive(Drop)]
+#[derive(Clone, Copy)]
 pub struct Said {
     pub value: u64,
     pub refused: u32,
@@ -39,7 +41,7 @@ pub struct Said {
 
 // A register's value, where `some`.
 #[repr(C)]
-#[derive(Drop)]
+#[derive(Clone, Copy)]
 pub struct Reading {
     pub board: Board,
     pub refused: u32,
@@ -49,7 +51,7 @@ pub struct Reading {
 
 // Where `some`, what DMA moved: an audio half's address and words, or a byte's address and the byte.
 #[repr(C)]
-#[derive(Drop)]
+#[derive(Clone, Copy)]
 pub struct Moved {
     pub some: u32,
     pub addr: u32,
@@ -58,7 +60,7 @@ pub struct Moved {
 
 // What a step hands out; `written` bytes of the lent output are its records, `applied` of them.
 #[repr(C)]
-#[derive(Drop)]
+#[derive(Clone, Copy)]
 pub struct Due {
     pub written: u64,
     pub applied: u32,
@@ -70,7 +72,7 @@ pub struct Due {
 }
 
 #[repr(C)]
-#[derive(Drop)]
+#[derive(Clone, Copy)]
 pub struct Advanced {
     pub board: Board,
     pub due: Due,
@@ -78,7 +80,7 @@ pub struct Advanced {
 
 // Where `some`, the interrupt to take.
 #[repr(C)]
-#[derive(Drop)]
+#[derive(Clone, Copy)]
 pub struct Chosen {
     pub refused: u32,
     pub some: u32,
@@ -88,7 +90,7 @@ pub struct Chosen {
 
 // The port's record, its event as a number.
 #[repr(C)]
-#[derive(Drop)]
+#[derive(Clone, Copy)]
 pub struct Port {
     pub changed: u64,
     pub con: u32,
@@ -100,7 +102,7 @@ pub struct Port {
 }
 
 #[repr(C)]
-#[derive(Drop)]
+#[derive(Clone, Copy)]
 pub struct PortAnswered {
     pub port: Port,
     pub said: Said,

@@ -2,6 +2,8 @@
 // off. Input streams through one buffer, so that its length does not matter, and lines wait in another. What is printed for the bytes that were read is `driver_records` (`driver_lines` for all of
 // them); here they are read and the lines written. The loop knows its board whole (`BenchOk`), so that records are carried out and nothing tested. The chip is a variable and the panel's arrays stay
 // in theirs, so that no record copies the board.
+#![tactic(auto)]
+
 mod stream;
 
 ghost use Rattle.std.specs.Prelude.{◌≡◌, length};
@@ -12,7 +14,7 @@ use driver_records::put_lines;
 use script::{SCRIPT_LEN, SCRIPT_WORDS};
 use step::OUT_BYTES;
 use stream::{fed, passed, unread};
-use text::first;
+use text::{STDOUT, first};
 use uart::QUEUE_LEN;
 
 const RATE: u64 = 240_000_000;
@@ -93,5 +95,5 @@ fn run(
 }
 
 fn flush(out: &[u8], n: usize) {
-    io::write_all(libc::STDOUT_FILENO, first(out, n));
+    io::write_all(STDOUT, first(out, n));
 }

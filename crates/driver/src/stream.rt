@@ -2,8 +2,10 @@
 ghost use Rattle.std.specs.Prelude.{◌≡◌, false, ◌+◌, ◌-◌, ◌≤◌, ◌<◌, ◌^◌, length, take, drop};
 ghost use Rattle.driver.specs.Stream.{unread_of, Fed};
 
+use text::{STDIN};
+
 // The bytes of the buffer from `at` up to `len`; the first of them has the offset `base` in the input. After `last` nothing is to be read.
-#[derive(Drop)]
+#[derive(Clone, Copy)]
 pub struct Stream {
     pub base: usize,
     pub at: usize,
@@ -64,7 +66,7 @@ fn filled(input: &mut [u8], from: usize) -> usize
     requires { from ≤ length input.old }
     ensures { (from + result ≤ length input.old) × (take from input.new ≡ take from input.old) }
 {
-    io::read_full(libc::STDIN_FILENO, &mut input[from..])
+    io::read_full(STDIN, &mut input[from..])
 }
 
 pub fn unread(input: &[u8], s: Stream) -> &[u8]

@@ -1,5 +1,7 @@
 // One of the driver's records carried out, by the public calls, for any board and any memory. It answers with all that the record's line has to say; lines are written elsewhere. A driver that
 // knows its board whole (`BenchOk`) goes by `driver_known` in its place. The script is held as plain words, two an entry.
+#![tactic(auto)]
+
 ghost use Rattle.std.specs.Prelude.{◌≡◌, ◌<◌, ◌^◌};
 ghost use Rattle.board.specs.Calls.{write_first, write_second};
 ghost use Rattle.script.specs.Words.{word_of};
@@ -26,7 +28,7 @@ use step::Stepped;
 use uart::Byte;
 
 // What a record answers, with all that its line shows. `Nothing` is the end of the input.
-#[derive(Drop)]
+#[derive(Clone, Copy)]
 pub enum Answer {
     Pushed {
         number: u32,
@@ -55,7 +57,7 @@ pub enum Answer {
     Nothing,
 }
 
-#[derive(Drop)]
+#[derive(Clone, Copy)]
 pub struct Carried {
     pub board: Board,
     pub answer: Answer,

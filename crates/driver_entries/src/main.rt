@@ -1,6 +1,8 @@
 // Document 01's driver over a script of entries: records from standard input, carried out on a new 240 MHz board, a line each on standard output. The board is made, stepped and pushed onto by the
 // calls over lent entries (crate `board_entries`, through `board_entries_by_value`); reads and writes go by `driver_carry`, which lends no script to them. Every call is a public one, with all its tests. It is there to be held
 // against the original and takes 256 KB of input; crate `driver` is the one that streams and is quick.
+#![tactic(auto)]
+
 use board_entries_by_value::{advance_in, new_in, push_in};
 use board_guard::BANK_WORDS;
 use driver_carry::{Answer, carry as carry_out, told};
@@ -9,7 +11,7 @@ use records::{Action, Order, RecordAt, decode};
 use script::{Entry, SCRIPT_LEN};
 use state::Board;
 use step::OUT_BYTES;
-use text::first;
+use text::{STDIN, STDOUT, first};
 use uart::QUEUE_LEN;
 
 const RATE: u64 = 240_000_000;
@@ -17,7 +19,7 @@ const RATE: u64 = 240_000_000;
 // No record has this offset: nothing comes after the last record, or after one that is broken.
 const NOWHERE: usize = 18_446_744_073_709_551_615;
 
-#[derive(Drop)]
+#[derive(Clone, Copy)]
 struct Outcome {
     board: Board,
     script: [Entry; SCRIPT_LEN],
@@ -31,7 +33,7 @@ fn main() {
     let mut icfg = [0u32; BANK_WORDS];
     let mut icfg1 = [0u32; BANK_WORDS];
     let mut acts = [0u8; OUT_BYTES];
-    let len = io::read_full(libc::STDIN_FILENO, &mut input);
+    let len = io::read_full(STDIN, &mut input);
     run(
         first(&input, len),
         &mut line,
@@ -66,7 +68,7 @@ fn run(
         b = c.board;
         script = c.script;
         let len = put_line(line, 0, answer);
-        io::write_all(libc::STDOUT_FILENO, first(line, len));
+        io::write_all(STDOUT, first(line, len));
         at = next_of(found);
         if at == NOWHERE {
             turns = 0;

@@ -1,4 +1,6 @@
 // The driver's records on a board that is known to be whole (`BenchOk`), so that nothing is tested for each of them: `carried` answers what `driver_carry` does, by one way for each kind (crate `driver_ways`).
+#![tactic(auto)]
+
 ghost use Rattle.std.specs.Prelude.{◌≡◌};
 ghost use Rattle.driver_carry.specs.Carry.{Bench, bench_of, BenchOk, answer_of, after};
 ghost use Rattle.driver_turns.specs.Held.{held_of};

@@ -1,4 +1,6 @@
 // The driver's lines, one an answer, put behind the bytes that wait in a buffer. A byte for which there is no room is left out, as everywhere in `text`; no line is longer than 116 bytes (`line-short` in proofs/Short.antt).
+#![tactic(auto)]
+
 ghost use Rattle.std.specs.Prelude.{◌≡◌, length};
 ghost use Rattle.text.specs.Putting.{place_after_all, put_all};
 ghost use Rattle.driver_lines.specs.Lines.{value_text, half_text, byte_text, flag_text, number_line, read_line, write_line, step_line, line_of};

@@ -1,5 +1,7 @@
 // The driver's records, as far as they lie in memory: each is carried out and its line put behind those before it, so that a program adds reading and writing alone. What is printed for an input is
 // `driver_lines` (specs/Records.antt). No record is longer than 17 bytes and no line than 116: while as many are left, or nothing more is to come, what is found is what the whole input has there.
+#![tactic(auto)]
+
 ghost use Rattle.std.specs.Prelude.{◌≡◌, false, ◌+◌, ◌-◌, ◌<◌, ◌^◌, length};
 ghost use Rattle.driver_carry.specs.Carry.{Bench, bench_of, BenchOk};
 ghost use Rattle.driver_turns.specs.Held.{held_of};
@@ -15,7 +17,7 @@ const LONGEST: usize = 17;
 const LINE: usize = 116;
 
 // Where it stands: the chip, how many bytes are done with, how many bytes of lines were put, and whether nothing comes after them.
-#[derive(Drop)]
+#[derive(Clone, Copy)]
 pub struct Went {
     pub chip: Chip,
     pub passed: usize,

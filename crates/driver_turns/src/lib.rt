@@ -1,4 +1,6 @@
 // The script's entries that a step takes, on a chip by value and a panel whose arrays stay where they are, lent: `driver_turns` comes to what `step`'s turns come to.
+#![tactic(auto)]
+
 ghost use Rattle.std.specs.Prelude.{◌≡◌, ◌<◌, ◌^◌, ltb, length};
 ghost use Rattle.keys.specs.Facts.{RampsShort};
 ghost use Rattle.keys.specs.Keys.{ramps_of};
@@ -19,7 +21,7 @@ use script::{Entry, entry_of};
 use state::Chip;
 
 // The chip once no entry is due, the bytes written and the entries taken; `on` is false then.
-#[derive(Drop)]
+#[derive(Clone, Copy)]
 pub struct Taken {
     pub chip: Chip,
     pub written: usize,

@@ -1,5 +1,7 @@
 // Pushes, reads, writes and steps on a board that is known to be whole, so that nothing is tested: `driver_known` chooses between them. The chip goes by value, the panel's arrays stay where they are, lent;
 // each function has one caller, so that the compiler puts all of them into one and holds the chip field by field.
+#![tactic(auto)]
+
 mod registers;
 mod steps;
 
@@ -17,7 +19,7 @@ use state::Chip;
 pub use steps::step;
 
 // The chip after a record, and what the record answers.
-#[derive(Drop)]
+#[derive(Clone, Copy)]
 pub struct Outcome {
     pub chip: Chip,
     pub answer: Answer,

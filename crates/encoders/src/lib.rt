@@ -1,5 +1,7 @@
 // The encoders. A detent is one whole quadrature cycle, four states; clockwise runs the Gray sequence backwards, so clicks are taken away. The contacts
 // move one state every 2 ms. `pending` holds an i32 as its bits: the states still to go. `now` is the clock in cycles, `hz` its rate.
+#![tactic(auto)]
+
 ghost use Rattle.std.specs.Prelude.{◌≡◌, ◌≤◌, ◌<◌, ◌^◌};
 ghost use Rattle.base.specs.Moments.{clock_max};
 ghost use Rattle.encoders.specs.Encoder.{
@@ -21,7 +23,7 @@ ghost use Rattle.encoders.specs.Encoder.{
 use base::{NEVER, i32_is_negative, i32_towards_zero, least, wrapping_mul, wrapping_sub};
 
 #[repr(C)]
-#[derive(Drop)]
+#[derive(Clone, Copy)]
 pub struct Enc {
     pub next: u64,
     pub pending: u32,

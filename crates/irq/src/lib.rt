@@ -1,6 +1,8 @@
 // The interrupts: which source a core takes. A board keeps a `Latch`, lends the two banks, and puts a `Pending` together from its blocks
 // whenever it asks. A bank (0x1eef100, for cores other than 0 0x1eef300) is 32 words, a nibble for each of 256 interrupts: bit 0 enables it,
 // bits 1 to 3 are its priority. Lend both banks for one lifetime.
+#![tactic(auto)]
+
 ghost use Rattle.std.specs.Prelude.{◌≡◌, ◌<◌, length};
 ghost use Rattle.irq.specs.Banks.{bank_words, bank_of, nibble, enabled_for, bank_read, bank_written};
 ghost use Rattle.irq.specs.Latch.{latch_new, latch_set, latch_cleared, set_read, clear_read};
@@ -35,7 +37,7 @@ pub const IRQ_TIMER5: u8 = 63;
 
 // What software raises (bit b is interrupt 120 + b), and the processor's exception. A flag is 0 or not 0.
 #[repr(C)]
-#[derive(Drop)]
+#[derive(Clone, Copy)]
 pub struct Latch {
     pub ilat: u32,
     pub exc_pending: u32,
@@ -128,7 +130,7 @@ pub fn irq_enabled<'a>(core: u32, n: u8, icfg: &'a [u32], icfg1: &'a [u32]) -> b
 // ---- the choice ---------------------------------------------------------------
 
 // The interrupt to take and its priority.
-#[derive(Drop)]
+#[derive(Clone, Copy)]
 pub enum Choice {
     Of { irq: u8, prio: u8 },
     None,
@@ -162,7 +164,7 @@ impl Choice {
 
 // What pends, as the blocks say it: the flags of `Latch`, the timers, the tick, SPI, the ADC, the UART's line; of audio whether any of bits 4 to 7
 // of its pendings is set and, apart from that, whether CON0's bit 11 lets it through.
-#[derive(Drop)]
+#[derive(Clone, Copy)]
 pub struct Pending {
     pub ilat: u32,
     pub exc: bool,

@@ -1,6 +1,8 @@
 // The keys: which are down, how hard the next will land, and the force on each, a ramp (crate pressure). The ramps are kept as an array a field, which a
 // test of the whole record goes through at a third of the cost; `ramp_at` is a key's. `key_in` and `pressure_in` turn them where they are kept, so that no array is copied.
 // `now` is the clock in cycles, `hz` its rate.
+#![tactic(auto)]
+
 ghost use Rattle.std.specs.Prelude.{◌≡◌, ◌≤◌, ◌<◌, ◌^◌, Float};
 ghost use Rattle.keys.specs.Keys.{
   keys_new,
@@ -27,7 +29,7 @@ use pressure::{Ramp, is_force, vel_force};
 use times::{RampTime, ms_cycles};
 
 #[repr(C)]
-#[derive(Drop)]
+#[derive(Clone, Copy)]
 pub struct Keys {
     // bit i is key i
     pub down: u64,
@@ -36,7 +38,7 @@ pub struct Keys {
 }
 
 #[repr(C)]
-#[derive(Drop)]
+#[derive(Clone, Copy)]
 pub struct Ramps {
     pub t0: [u64; 41],
     pub dur: [u32; 41],
@@ -45,7 +47,7 @@ pub struct Ramps {
 }
 
 // What a key's press or release makes of both.
-#[derive(Drop)]
+#[derive(Clone, Copy)]
 pub struct Pressed {
     pub keys: Keys,
     pub ramps: Ramps,

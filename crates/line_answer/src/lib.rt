@@ -1,5 +1,7 @@
 // What `calls` and `asks` answer, as text behind the bytes that wait in a buffer: the line itself, ` = ` and its answer. A byte for which there is no room is
 // left out, as everywhere in `text`.
+#![tactic(auto)]
+
 mod forms;
 
 ghost use Rattle.std.specs.Prelude.{◌≡◌, length};
@@ -10,7 +12,7 @@ use forms::put_form;
 use text::{put_decimal, put_text};
 
 // A form, and the numbers that it shows in turn.
-#[derive(Drop)]
+#[derive(Clone, Copy)]
 pub struct Answer {
     pub form: usize,
     pub numbers: [u64; 10],

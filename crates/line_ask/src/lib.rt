@@ -1,4 +1,6 @@
 // A line of `calls` to what it asks: which call it is, and its numbers. Lists of names say which calls there are and what numbers they take.
+#![tactic(auto)]
+
 mod ids;
 mod lists;
 mod numbers;
@@ -17,7 +19,7 @@ use text::{Number, bytes_of, decimal_in, first, is_passed_over};
 pub const LINE: usize = 4097;
 
 // The numbers as they are, and the first two cut to what a call takes: they were seen to fit. `kind` is the call's place in its list.
-#[derive(Drop)]
+#[derive(Clone, Copy)]
 pub struct Ask {
     pub call: usize,
     pub kind: usize,

@@ -5,7 +5,7 @@ ghost use Rattle.line_ask.specs.Lists.{byte_at, is_named, find_from};
 use text::{Span, bytes_of, is};
 
 // Which name it is, counted from 0, and where its types stand; past the end where it is none.
-#[derive(Drop)]
+#[derive(Clone, Copy)]
 pub struct Found {
     pub k: usize,
     pub at: usize,

@@ -4,7 +4,7 @@ ghost use Rattle.line_ask.specs.WordsIn.{behind, words_of, rest_of};
 
 use text::{Span, word};
 
-#[derive(Drop)]
+#[derive(Clone, Copy)]
 pub struct Words {
     pub verb: Span,
     pub one: Span,

@@ -1,5 +1,7 @@
 // Names of keys and encoders, as scripts write them, to their ids: `key_id(b"Bb4")` is `Id::Of(31)`, `enc_id(b"select")` is `Id::Of(0)`.
 // Names are bytes in any case; what is no name is `Id::None`, and nothing is refused.
+#![tactic(auto)]
+
 ghost use Rattle.std.specs.Prelude.{◌≡◌, cond, ℕ, ◌+◌, ◌<◌, ◌≤◌, get_or, drop};
 ghost use Rattle.std.proofs.Math.Option.{Option, none, some};
 ghost use Rattle.names.specs.Ascii.{upper, uppers};
@@ -23,7 +25,7 @@ const F3: u32 = 53;
 
 const G5: u32 = 79;
 
-#[derive(Drop)]
+#[derive(Clone, Copy)]
 pub enum Id {
     Of(u8),
     None,

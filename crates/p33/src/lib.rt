@@ -9,6 +9,8 @@
 // and the data. CON bit 8 selects the RTC domain's registers. Plain registers, all 0 at power-on, but for two that act: WDT_CON (bit 4 runs the
 // watchdog, bits 0 to 3 are its period, bit 6 written feeds it) and PR_PWR (bit 4 written resets the chip). The bits that act read 0, so a
 // feed in a polling loop changes nothing there. Whoever keeps the chip takes the event after each access.
+#![tactic(auto)]
+
 ghost use Rattle.std.specs.Prelude.{◌≡◌, ◌<◌, ◌^◌, length, get_or, set};
 ghost use Rattle.times.specs.Watchdog.{wdt_ms};
 ghost use Rattle.p33.specs.P33.{
@@ -47,7 +49,7 @@ ghost use Rattle.p33.specs.Sameness.{same_snap, same_record, same_regs, same_of}
 use base::COUNT_MAX;
 
 // What the last transfer asks of the chip.
-#[derive(Drop)]
+#[derive(Clone, Copy)]
 pub enum Event {
     None,
     // WDT_CON written: with `fed`, its count cleared.
@@ -56,7 +58,7 @@ pub enum Event {
     Reset,
 }
 
-#[derive(Drop)]
+#[derive(Clone, Copy)]
 pub struct P33 {
     pub con: u32,
     pub dat: u32,
@@ -72,29 +74,29 @@ pub struct P33 {
 // The port in brief: con, dat, step, cmd, addr, changed. Equal snaps of ONE port at two times say that con, dat, step, cmd, addr and all
 // registers are as they were. They say nothing of the event: a feed of a running watchdog leaves an event and an equal snap. And of two ports they
 // say nothing at all: their registers may differ. To compare ports use `same`.
-#[derive(Drop)]
+#[derive(Clone, Copy)]
 pub struct Snap(pub u32, pub u32, pub u8, pub u8, pub u16, pub u64);
 
 // What a call answers that can be refused.
-#[derive(Drop)]
+#[derive(Clone, Copy)]
 pub struct Done {
     pub refused: u8,
     pub port: P33,
 }
 
-#[derive(Drop)]
+#[derive(Clone, Copy)]
 pub struct Taken {
     pub event: Event,
     pub port: P33,
 }
 
-#[derive(Drop)]
+#[derive(Clone, Copy)]
 pub struct Value {
     pub refused: u8,
     pub value: u8,
 }
 
-#[derive(Drop)]
+#[derive(Clone, Copy)]
 pub struct Compared {
     pub refused: u8,
     pub same: bool,

@@ -72,7 +72,7 @@ fn flush(acc: &mut [u64; 41], map: Map, pins: Pins)
 }
 
 // The light that is taken: each LED's lit cycles and the span that they are out of. The times then begin at 0.
-#[derive(Drop)]
+#[derive(Clone, Copy)]
 pub struct Taken {
     pub pins: Pins,
     pub lit: [u64; 41],

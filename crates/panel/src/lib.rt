@@ -2,6 +2,8 @@
 // the LEDs' light and the keys' forces. Which key or LED stands where is a `Map`, a parameter of every function that asks; `fm1()` is the FM-1's.
 // Each block is a record by value whose methods hand back the record after a moment, a register write or an action; the LED times are lent, and the keys' ramps may be (`key_in`). `now` is
 // the clock in cycles, `hz` its rate. The encoders and the keys are crates of their own, whose items are handed on here.
+#![tactic(auto)]
+
 mod led;
 mod map;
 mod matrix;

@@ -2,6 +2,8 @@
 //
 // A reader starts at offset 0, decodes, and goes on at `next` until `End` or `Broken`. A writer encodes at an offset
 // and goes on at `next`; where a record does not fit, nothing is written.
+#![tactic(auto)]
+
 ghost use Rattle.std.specs.Prelude.{◌≡◌, ◌++◌, ℕ, ◌+◌, ◌-◌, ◌*◌, ◌≤◌, ◌<◌, ◌^◌, length, drop, leb};
 ghost use Rattle.std.proofs.lemmas.List.Edits.{sets};
 ghost use Rattle.records.specs.Le.{le, number_at};
@@ -10,7 +12,7 @@ ghost use Rattle.records.specs.Decoded.{timed_of, any_of, record_of, Found};
 ghost use Rattle.records.specs.Encoded.{answer_of, written_of};
 
 // The actions of the FM-1, as the source names them. `clicks` is an i32, kept as its bits.
-#[derive(Drop)]
+#[derive(Clone, Copy)]
 pub enum Action {
     Key { id: u8, down: bool },
     Enc { enc: u8, clicks: u32 },
@@ -21,7 +23,7 @@ pub enum Action {
 }
 
 // What only the driver takes.
-#[derive(Drop)]
+#[derive(Clone, Copy)]
 pub enum Order {
     Read { addr: u32 },
     Write { addr: u32, value: u32 },
@@ -29,7 +31,7 @@ pub enum Order {
 }
 
 // What stands at an offset, where only actions are looked for.
-#[derive(Drop)]
+#[derive(Clone, Copy)]
 pub enum TimedAt {
     Timed {
         time: u64,
@@ -43,7 +45,7 @@ pub enum TimedAt {
 }
 
 // What stands at an offset, as the driver reads it.
-#[derive(Drop)]
+#[derive(Clone, Copy)]
 pub enum RecordAt {
     Timed {
         time: u64,
@@ -60,7 +62,7 @@ pub enum RecordAt {
     End,
 }
 
-#[derive(Drop)]
+#[derive(Clone, Copy)]
 pub enum Wrote {
     Next { next: usize },
     NoRoom,

@@ -7,16 +7,18 @@
 //     CALL A B = N                             any other call, with its numbers
 //
 // The step, the push and `apply` are tried by crates/refusals_whole. Numbers are decimal, and one that is not there is 0. Other lines (remarks, empty ones) are only written.
+#![tactic(auto)]
+
 mod asks;
 mod banks;
 
 use asks::{CALLS, asked, call_of};
 use refusals_lines::{Answer, numbers_of, put_line};
-use text::{Span, bytes_of, first, is, line_end, word};
+use text::{STDIN, STDOUT, Span, bytes_of, first, is, line_end, word};
 
 fn main() {
     let mut input = [0u8; 65536];
-    let got = io::read_full(libc::STDIN_FILENO, &mut input);
+    let got = io::read_full(STDIN, &mut input);
     every_line(first(&input, got));
 }
 
@@ -60,5 +62,5 @@ fn told(line: &[u8], count: u32, n: u32) {
         three: 0,
     };
     let to = put_line(&mut out, line, a);
-    io::write_all(libc::STDOUT_FILENO, first(&out, to));
+    io::write_all(STDOUT, first(&out, to));
 }

@@ -1,4 +1,6 @@
 // What `refusals_whole` and `refusals_limits` share: a line's names and numbers, and the line written again with its answer.
+#![tactic(auto)]
+
 ghost use Rattle.std.specs.Prelude.{◌≡◌, ◌++◌, ◌≤◌, length};
 ghost use Rattle.text.specs.Putting.{place_after_all, put_all, decimal_of};
 ghost use Rattle.refusals_lines.specs.Lines.{place_in, number_in, numbers_in, answer_text, line_text};
@@ -6,7 +8,7 @@ ghost use Rattle.refusals_lines.specs.Lines.{place_in, number_in, numbers_in, an
 use text::{Number, Span, decimal_in, is, put_decimal, put_text, word};
 
 // A line's numbers, in their order.
-#[derive(Drop)]
+#[derive(Clone, Copy)]
 pub struct Numbers {
     pub a: u64,
     pub b: u64,
@@ -16,7 +18,7 @@ pub struct Numbers {
 }
 
 // What came back: no number, one, or three.
-#[derive(Drop)]
+#[derive(Clone, Copy)]
 pub struct Answer {
     pub count: u32,
     pub one: u32,

@@ -1,4 +1,6 @@
 // The record from rows of numbers, one for each field that a whole record limits and for those that decide what the calls here do. A field with one place has it at the row's front; all other fields are a new board's.
+#![tactic(auto)]
+
 ghost use Rattle.std.specs.Prelude.{◌≡◌, ◌≤◌, map};
 ghost use Rattle.refusals_rows.specs.Rows.{
   row_of,

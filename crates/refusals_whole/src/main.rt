@@ -11,17 +11,19 @@
 //     spi1_start BYTES BAUD = N, spi2_start BYTES BAUD = N
 //
 // Numbers are decimal, a force is given by its bits, and a number that is not there is 0. Other lines (remarks, empty ones) are only written.
+#![tactic(auto)]
+
 mod asks;
 mod lent;
 
 use asks::{CALLS, asked, call_of, three};
 use refusals_lines::{Answer, Numbers, numbers_of, put_line};
 use refusals_rows::{PLACES, ROWS, fill, row_of};
-use text::{Span, bytes_of, first, is, line_end, word};
+use text::{STDIN, STDOUT, Span, bytes_of, first, is, line_end, word};
 
 fn main() {
     let mut input = [0u8; 65536];
-    let got = io::read_full(libc::STDIN_FILENO, &mut input);
+    let got = io::read_full(STDIN, &mut input);
     every_line(first(&input, got));
 }
 
@@ -76,5 +78,5 @@ fn number(count: u32, n: u32) -> Answer {
 fn told(line: &[u8], a: Answer) {
     let mut out = [0u8; 256];
     let to = put_line(&mut out, line, a);
-    io::write_all(libc::STDOUT_FILENO, first(&out, to));
+    io::write_all(STDOUT, first(&out, to));
 }

@@ -29,7 +29,7 @@ use timers::{T4, T5, Tick, Tmr};
 use uart::Uart;
 
 // A register's value, or none where the word is plain storage.
-#[derive(Drop)]
+#[derive(Clone, Copy)]
 pub enum Value {
     Is(u32),
     None,

@@ -1,5 +1,7 @@
 // What the runner asks of a chip between steps, inner: a caller that knows the record whole calls these without tests. Ticks and idle time, the choice of an interrupt, SPI transfers and
 // the shift register, times, the MIDI queue's counts, and the runner's settings.
+#![tactic(auto)]
+
 ghost use Rattle.std.specs.Prelude.{◌≡◌, ◌^◌, ◌<◌, ◌≤◌, length};
 ghost use Rattle.base.specs.Limits.{rate_max, spi_bytes_max, spi_baud_max, ms_max};
 ghost use Rattle.base.specs.Moments.{clock_max};
@@ -201,7 +203,7 @@ pub fn cycle_of_ms(c: Chip, ms: u64) -> Cycles
 // ---- LEDs
 
 // The light so far: what each LED was lit, and over how long.
-#[derive(Drop)]
+#[derive(Clone, Copy)]
 pub struct Light {
     pub board: Board,
     pub lit: [u64; 41],

@@ -4,6 +4,8 @@
 // Lend the same entries to each call and go on with the ring that it answers: `push` puts an entry behind the last, `look` shows what stands at a place,
 // `take` takes the front. A call that is refused says why by document 01's number (0: done) and leaves ring and entries as they were. Whoever holds
 // the script as plain words, two an entry, reads them by `entry_of`, and goes by the ring's own functions.
+#![tactic(auto)]
+
 ghost use Rattle.std.specs.Prelude.{◌≡◌, ◌<◌, length};
 ghost use Rattle.script.specs.Script.{
   entries,
@@ -38,7 +40,7 @@ use base::{FULL, NEVER, SIZE, STATE};
 use records::Action;
 
 #[repr(C)]
-#[derive(Drop)]
+#[derive(Clone, Copy)]
 pub struct Script {
     // the front's time, while any wait
     pub at: u64,
@@ -46,21 +48,21 @@ pub struct Script {
     pub count: u32,
 }
 
-#[derive(Drop)]
+#[derive(Clone, Copy)]
 pub struct Entry {
     pub at: u64,
     pub action: Action,
 }
 
 // What a script shows at a place: its length, and the entry there, or none past the end.
-#[derive(Drop)]
+#[derive(Clone, Copy)]
 pub struct Front {
     pub len: usize,
     pub entry: Entry,
 }
 
 // Where a push puts its entry, and the ring then. A refused push has `ok` false, and the ring as it was.
-#[derive(Drop)]
+#[derive(Clone, Copy)]
 pub struct Spot {
     pub ring: Script,
     pub place: usize,
@@ -68,14 +70,14 @@ pub struct Spot {
     pub ok: bool,
 }
 
-#[derive(Drop)]
+#[derive(Clone, Copy)]
 pub struct Pushed {
     pub ring: Script,
     pub refused: u32,
 }
 
 // The front, where `some`.
-#[derive(Drop)]
+#[derive(Clone, Copy)]
 pub struct Took {
     pub ring: Script,
     pub entry: Entry,

@@ -1,5 +1,7 @@
 // SPI1 and SPI2, as far as they have times: a transfer takes its cycles, and raises its interrupt at its end where that is asked for. The bytes
 // themselves are the host's. (The stock firmware redraws its screen as often as SPI1's DMA lets it, and scans the matrix's columns by SPI2.)
+#![tactic(auto)]
+
 ghost use Rattle.std.specs.Prelude.{◌≡◌, ◌<◌, ◌≤◌, ◌^◌};
 ghost use Rattle.base.specs.Limits.{spi_bytes_max, spi_baud_max};
 ghost use Rattle.base.specs.Moments.{clock_max};
@@ -8,7 +10,7 @@ ghost use Rattle.spi.specs.Spi.{spi_new, spi1_started, spi1_off, spi2_started, s
 use base::NEVER;
 
 #[repr(C)]
-#[derive(Drop)]
+#[derive(Clone, Copy)]
 pub struct Spi {
     // when SPI1's transfer ends, and its interrupt comes
     pub spi1_done_at: u64,

@@ -1,6 +1,8 @@
 // The board's record, by value: the chip (everything that steps and registers touch) and the panel (the keys' forces, the LEDs' light, the converter's
 // stored values). A block each, in the blocks' own crates; here they are put together, and here is what is asked of them as one: whether the record is whole, and when the
 // next timed event comes. The chip has no hole and is never indexed at run time.
+#![tactic(auto)]
+
 ghost use Rattle.std.specs.Prelude.{◌≡◌, ◌≤◌, ◌<◌, ◌^◌};
 ghost use Rattle.state.specs.State.{
   clock_new,
@@ -37,7 +39,7 @@ use uart::Uart;
 
 // The clock and the runner's settings.
 #[repr(C)]
-#[derive(Drop)]
+#[derive(Clone, Copy)]
 pub struct Clock {
     pub cycles: u64,
     // nothing timed happens before this cycle
@@ -53,7 +55,7 @@ pub struct Clock {
 
 // Deadlines that the host sets: USB frames with their period, and the watchdog.
 #[repr(C)]
-#[derive(Drop)]
+#[derive(Clone, Copy)]
 pub struct Host {
     pub usb_next: u64,
     pub usb_period: u64,
@@ -61,7 +63,7 @@ pub struct Host {
 }
 
 #[repr(C)]
-#[derive(Drop)]
+#[derive(Clone, Copy)]
 pub struct Chip {
     pub clock: Clock,
     pub t4: T4,
@@ -81,7 +83,7 @@ pub struct Chip {
 }
 
 #[repr(C)]
-#[derive(Drop)]
+#[derive(Clone, Copy)]
 pub struct Panel {
     pub acc: [u64; 41],
     pub ramps: Ramps,
@@ -89,7 +91,7 @@ pub struct Panel {
 }
 
 #[repr(C)]
-#[derive(Drop)]
+#[derive(Clone, Copy)]
 pub struct Board {
     pub chip: Chip,
     pub panel: Panel,

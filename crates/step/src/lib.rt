@@ -1,6 +1,8 @@
 // The step, the actions and the reset, on a board by value: inner functions, below the public calls. A step is three pieces, so that whoever holds the script
 // shows it entry by entry: `begun` with what stands at `front_place`, `turned` with the entry at `place` while it is `on`, `finished`. A push is two: `placed`, which
 // says where the entry goes if `ok`, and `pushed`.
+#![tactic(auto)]
+
 mod actions;
 mod reset;
 mod stages;
@@ -44,7 +46,7 @@ use state::{Board, Chip};
 use uart::{Byte, QUEUE_BYTES};
 
 // A step that is under way: what it found due, the entries taken and the bytes written, where to look next and whether to look, whether it was served at all.
-#[derive(Drop)]
+#[derive(Clone, Copy)]
 pub struct Going {
     pub board: Board,
     pub audio_half: Half,
@@ -59,7 +61,7 @@ pub struct Going {
     pub served: bool,
 }
 
-#[derive(Drop)]
+#[derive(Clone, Copy)]
 pub struct Stepped {
     pub board: Board,
     pub audio_half: Half,
@@ -72,7 +74,7 @@ pub struct Stepped {
 }
 
 // Where a push puts its entry, if `ok`; a refused one has the board as it was.
-#[derive(Drop)]
+#[derive(Clone, Copy)]
 pub struct Spot {
     pub board: Board,
     pub place: usize,

@@ -11,7 +11,7 @@ use timers::tmrs_at;
 use uart::Byte;
 
 // The chip after the stages, and what they found due.
-#[derive(Drop)]
+#[derive(Clone, Copy)]
 pub struct Served {
     pub chip: Chip,
     pub audio_half: Half,

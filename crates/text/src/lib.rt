@@ -2,27 +2,33 @@
 //
 // A writer puts each text at the place that the last one answered; a byte for which there is no room is left out. A
 // reader takes `word(line, 0)`, then goes on at that word's `to`, until a word is empty.
+#![tactic(auto)]
+
 ghost use Rattle.std.specs.Prelude.{◌≡◌, true, ◌++◌, ◌≤◌, length, drop};
 ghost use Rattle.text.specs.Putting.{place_after, put_byte, place_after_all, put_all, decimal_of, hex_of, first_of};
 ghost use Rattle.text.specs.Spans.{run_end, line_end, word_at, bytes_in, is_text, is_passed_over};
 ghost use Rattle.text.specs.Numerals.{digit_of, all_digits, decimal_in, hex_in};
 ghost use Rattle.text.specs.HexBytes.{is_dash, is_pairs, pairs, unhexed_answer, unhexed_bytes};
 
+// The descriptors that a program reads and writes.
+pub const STDIN: i32 = 0;
+pub const STDOUT: i32 = 1;
+
 // A word's place in its line.
-#[derive(Drop)]
+#[derive(Clone, Copy)]
 pub struct Span {
     pub from: usize,
     pub to: usize,
 }
 
-#[derive(Drop)]
+#[derive(Clone, Copy)]
 pub enum Number {
     Is(u64),
     Not,
 }
 
 // The bytes at the front, so many, or none because the word stands for no bytes or has no room.
-#[derive(Drop)]
+#[derive(Clone, Copy)]
 pub enum Unhexed {
     Bytes(usize),
     Not,

@@ -8,7 +8,7 @@ use base::{NEVER, least, most, rearmed, started, switched, unless_wide};
 use times::Cycles;
 
 #[repr(C)]
-#[derive(Drop)]
+#[derive(Clone, Copy)]
 pub struct Tick {
     pub start: u64,
     pub next: u64,

@@ -23,7 +23,7 @@ use base::{NEVER, least, most, product, rearmed, unless};
 use times::{Cycles, Mhz24};
 
 #[repr(C)]
-#[derive(Drop)]
+#[derive(Clone, Copy)]
 pub struct Tmr {
     pub start: u64,
     pub next: u64,

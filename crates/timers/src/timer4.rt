@@ -7,7 +7,7 @@ use base::{least, most, started};
 use times::{Cycles, Mhz24};
 
 #[repr(C)]
-#[derive(Drop)]
+#[derive(Clone, Copy)]
 pub struct T4 {
     pub base: u64,
     pub last_cnt_read: u64,
@@ -16,7 +16,7 @@ pub struct T4 {
 }
 
 // A skipping count read: the timer after it, and where the clock stands then. Where that is past its reach the caller refuses the read.
-#[derive(Drop)]
+#[derive(Clone, Copy)]
 pub struct Polled {
     pub t4: T4,
     pub clock: u64,

@@ -7,7 +7,7 @@ use base::{NEVER, least, most, rearmed, switched, unless_wide};
 use times::{Cycles, Mhz6};
 
 #[repr(C)]
-#[derive(Drop)]
+#[derive(Clone, Copy)]
 pub struct T5 {
     pub next: u64,
     pub pending: u64,

@@ -5,6 +5,8 @@
 //
 // The blocks' periods, timeouts and transfers are such counts too. The fields of their records are plain numbers: moments, and registers
 // as the firmware reads them, in the layout that C sees. So a count gives up its type (`.0`) where a moment is added to it or a register handed out.
+#![tactic(auto)]
+
 mod wide;
 
 ghost use Rattle.std.specs.Prelude.{◌≡◌, ◌*◌, ◌^◌, ◌<◌, ◌≤◌};
@@ -30,19 +32,19 @@ use base::{most, product};
 pub use wide::{mul_div, quotient};
 
 // Processor cycles: a length of time, or the time since the start.
-#[derive(Drop)]
+#[derive(Clone, Copy)]
 pub struct Cycles(pub u64);
 
 // Counts of the 24 MHz crystal, as its 32-bit registers hold them.
-#[derive(Drop)]
+#[derive(Clone, Copy)]
 pub struct Mhz24(pub u32);
 
 // Counts of the crystal divided by four (OSC/4).
-#[derive(Drop)]
+#[derive(Clone, Copy)]
 pub struct Mhz6(pub u32);
 
 // Clocks of the UART (PLL48M).
-#[derive(Drop)]
+#[derive(Clone, Copy)]
 pub struct UartClocks(pub u32);
 
 pub const T4_HZ: u64 = 24_000_000;
@@ -118,7 +120,7 @@ pub fn cycles_of_ms(ms: u64, hz: u32) -> Cycles
 }
 
 // How long a key's force takes to its new value.
-#[derive(Drop)]
+#[derive(Clone, Copy)]
 pub enum RampTime {
     // a press lands in 1.5 ms
     Press,

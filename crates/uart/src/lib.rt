@@ -2,6 +2,8 @@
 // into the ring RXSADR to RXEADR; the host does the writing. RXCNT bytes since the last latch pend, and so does OTCNT UART clocks of silence
 // after a byte. The queue is `count` bytes of a ring of QUEUE_BYTES lent bytes, the first at `place`. In a step `receive_at` comes before
 // `timeout_at`. A flag is 0 or not 0, as wide as leaves the record without a hole.
+#![tactic(auto)]
+
 ghost use Rattle.std.specs.Prelude.{◌≡◌, ◌^◌, ◌<◌, ◌≤◌, length, if◌then◌else◌};
 ghost use Rattle.base.specs.Moments.{clock_max};
 ghost use Rattle.uart.specs.Uart.{
@@ -38,7 +40,7 @@ use base::{NEVER, least, most, unless, when};
 use times::{Cycles, UartClocks};
 
 #[repr(C)]
-#[derive(Drop)]
+#[derive(Clone, Copy)]
 pub struct Uart {
     // when the queue's first byte has arrived
     pub next: u64,
@@ -66,13 +68,13 @@ pub struct Uart {
 }
 
 // A byte that the DMA writes, and where.
-#[derive(Drop)]
+#[derive(Clone, Copy)]
 pub enum Byte {
     Got { addr: u32, b: u8 },
     None,
 }
 
-#[derive(Drop)]
+#[derive(Clone, Copy)]
 pub struct Received {
     pub uart: Uart,
     pub byte: Byte,
