@@ -1,4 +1,4 @@
-/* The FM-1's peripheral block for C: link target/staticlib/libcapi.a (`rt staticlib capi`), x86-64 Linux.
+/* The FM-1's peripheral block for C: link target/staticlib/libcapi.a (`tools/build capi`), x86-64 Linux.
  * Written by tools/bindings from the code; change that.
  *
  * Keep a record and the memory that it is lent; hand both to each call and go on with the record that it answers. Whatever bytes the record holds, a call ends with its answer: where it is

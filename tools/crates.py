@@ -19,7 +19,7 @@ def listed():
     for line in read("crates.txt").split("\n"):
         if line.strip() and not line.startswith("#"):
             name, below = line.split(":")
-            found[name.strip()] = below.split()
+            found[name.split()[0]] = below.split()  # a static library's line has that word behind its name
     return found
 
 

@@ -1,4 +1,4 @@
-// Links libcapi.a, which `rt staticlib capi` wrote ($FM1_LIB, or the project's own target/staticlib), and holds the record's layout against it before anything is built on it: layout_check.rs asks the
+// Links libcapi.a, which `tools/build capi` wrote ($FM1_LIB, or the project's own target/staticlib), and holds the record's layout against it before anything is built on it: layout_check.rs asks the
 // library where every field lies. Where a program for the target cannot be run here, cargo's own runner for the target is asked; without one the crate's tests check it.
 use std::env::var;
 use std::process::Command;

@@ -19,6 +19,7 @@ const RECORD: usize = 3;
 
 const NUMBERS: usize = 4;
 
+#[tactic(auto, unfolding(crate::specs::Answered::answer_to))]
 pub fn answer(line: &[u8]) -> Answer
     ensures { result ≡ answer_to line.now }
 {
@@ -29,6 +30,7 @@ pub fn answer(line: &[u8]) -> Answer
     answer_by(kind_of(line, w.verb), line, w)
 }
 
+#[tactic(auto, unfolding(crate::specs::Answered::kind_of))]
 fn kind_of(line: &[u8], verb: Span) -> usize
     ensures { result ≡ kind_of line.now verb }
 {
@@ -47,6 +49,7 @@ fn kind_of(line: &[u8], verb: Span) -> usize
     NUMBERS
 }
 
+#[tactic(auto, unfolding(crate::specs::Answered::answer_by))]
 fn answer_by(k: usize, line: &[u8], w: Words) -> Answer
     ensures { result ≡ answer_by k line.now w }
 {
@@ -59,6 +62,7 @@ fn answer_by(k: usize, line: &[u8], w: Words) -> Answer
     }
 }
 
+#[tactic(auto, unfolding(crate::specs::Answered::id_answer))]
 fn id_answer(q: Ask) -> Answer
     ensures { result ≡ id_answer q }
 {
@@ -70,6 +74,7 @@ fn id_answer(q: Ask) -> Answer
     }
 }
 
+#[tactic(auto, unfolding(crate::specs::Answered::number_answer))]
 fn number_answer(n: Number) -> Answer
     ensures { result ≡ number_answer n }
 {

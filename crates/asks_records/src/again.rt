@@ -6,6 +6,7 @@ ghost use Rattle.asks_records.specs.Again.{is_again, is_copied};
 use records::{Action, Order, Wrote};
 use text::{Span, first, is};
 
+#[tactic(auto, unfolding(crate::specs::Again::is_again))]
 pub fn timed_again(bytes: &[u8], at: usize, next: usize, time: u64, action: Action) -> bool
     ensures { result ≡ is_again bytes.now at next (bytes_of_timed time action) }
 {
@@ -14,6 +15,7 @@ pub fn timed_again(bytes: &[u8], at: usize, next: usize, time: u64, action: Acti
     is_copied(bytes, at, next, wrote, &copy)
 }
 
+#[tactic(auto, unfolding(crate::specs::Again::is_again))]
 pub fn order_again(bytes: &[u8], at: usize, next: usize, order: Order) -> bool
     ensures { result ≡ is_again bytes.now at next (bytes_of_order order) }
 {
@@ -22,6 +24,7 @@ pub fn order_again(bytes: &[u8], at: usize, next: usize, order: Order) -> bool
     is_copied(bytes, at, next, wrote, &copy)
 }
 
+#[tactic(auto, unfolding(crate::specs::Again::is_copied))]
 fn is_copied(bytes: &[u8], at: usize, next: usize, wrote: Wrote, copy: &[u8; 32]) -> bool
     ensures { result ≡ is_copied bytes.now at next wrote copy.now }
 {

@@ -16,6 +16,7 @@ use records::{Action, Order, RecordAt};
 use text::{Number, Span, Unhexed, decimal_in, first, unhex};
 
 // `HEX AT` behind the first word: some bytes as pairs of hex digits, and an offset of them.
+#[tactic(auto, unfolding(crate::specs::Recited::record_in, crate::specs::Recited::placed_as))]
 pub fn record_in(line: &[u8], w: Words) -> Answer
     ensures { result ≡ record_in line.now w }
 {
@@ -29,6 +30,7 @@ pub fn record_in(line: &[u8], w: Words) -> Answer
 }
 
 // A line has room for no more than 2,045 bytes in hex.
+#[tactic(auto, unfolding(crate::specs::Recited::bytes_answer, crate::specs::Recited::unhexed_as))]
 fn in_bytes(line: &[u8], w: Span, at: usize) -> Answer
     ensures { result ≡ bytes_answer line.now w at }
 {
@@ -40,6 +42,7 @@ fn in_bytes(line: &[u8], w: Span, at: usize) -> Answer
 }
 
 // A record that does not come back as the bytes that it was read from has a star behind it.
+#[tactic(auto, unfolding(crate::specs::Recited::record_answer, crate::specs::Recited::found_answer))]
 fn recited(bytes: &[u8], at: usize) -> Answer
     ensures { result ≡ record_answer bytes.now at }
 {
@@ -60,6 +63,7 @@ fn recited(bytes: &[u8], at: usize) -> Answer
     }
 }
 
+#[tactic(auto, unfolding(crate::specs::Recited::action_answer))]
 fn of_action(action: Action, time: u64, next: u64, same: bool) -> Answer
     ensures { result ≡ action_answer action time next same }
 {
@@ -81,6 +85,7 @@ fn of_action(action: Action, time: u64, next: u64, same: bool) -> Answer
 }
 
 // Clicks are the bits of an i32; below 0 they are told with a minus.
+#[tactic(auto, unfolding(crate::specs::Recited::clicks_answer))]
 fn of_clicks(same: bool, time: u64, enc: u64, clicks: u32, next: u64) -> Answer
     ensures { result ≡ clicks_answer same time enc clicks next }
 {
@@ -97,6 +102,7 @@ fn of_clicks(same: bool, time: u64, enc: u64, clicks: u32, next: u64) -> Answer
     four(ENC, same, time, enc, clicks as u64, next)
 }
 
+#[tactic(auto, unfolding(crate::specs::Recited::order_answer))]
 fn of_order(order: Order, next: u64, same: bool) -> Answer
     ensures { result ≡ order_answer order next same }
 {

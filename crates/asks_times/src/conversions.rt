@@ -16,6 +16,7 @@ pub fn at_rate(k: usize, hz: u32) -> Number
     Number::Is(rate_time(k, hz).0)
 }
 
+#[tactic(auto, unfolding(crate::specs::Conversions::rate_time))]
 fn rate_time(k: usize, hz: u32) -> Cycles
     ensures { result.0 ≡ rate_time k hz }
 {
@@ -56,6 +57,7 @@ pub fn of_time(k: usize, n: u64, hz: u32) -> Number
     timed_by(k, n, hz)
 }
 
+#[tactic(auto, unfolding(crate::specs::Conversions::timed_by))]
 fn timed_by(k: usize, n: u64, hz: u32) -> Number
     ensures { result ≡ timed_by k n hz }
 {
@@ -106,6 +108,7 @@ pub fn of_register(k: usize, n: u32, hz: u32) -> Number
     registered_by(k, n, hz)
 }
 
+#[tactic(auto, unfolding(crate::specs::Conversions::registered_by))]
 fn registered_by(k: usize, n: u32, hz: u32) -> Number
     ensures { result ≡ registered_by k n hz }
 {

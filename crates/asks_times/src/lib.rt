@@ -79,6 +79,7 @@ fn number_of(q: Ask) -> Number
 }
 
 // Those that take no rate.
+#[tactic(auto, unfolding(crate::specs::Questions::plain_of))]
 fn of_plain(k: usize, q: Ask) -> Number
     ensures { result ≡ plain_of k q }
 {

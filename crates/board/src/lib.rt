@@ -51,6 +51,7 @@ fn no_read(b: Board, n: u32) -> Reading
 }
 
 // TIMER4's count for one who polls it: idle time is skipped first, and TIME refused where that would end past the clock's last.
+#[tactic(auto, unfolding(crate::specs::Calls::counted_of))]
 fn counted(mut b: Board) -> Reading
     requires { Whole b }
     ensures { result ≡ counted_of b }
@@ -86,6 +87,7 @@ pub fn read<'a>(b: Board, addr: u32, icfg: &'a [u32], icfg1: &'a [u32]) -> Readi
     }
 }
 
+#[tactic(auto, unfolding(crate::specs::Calls::write_call, crate::specs::Calls::write_first, crate::specs::Calls::write_second))]
 pub fn write(b: Board, addr: u32, v: u32, icfg: &mut [u32], icfg1: &mut [u32]) -> Written
     ensures value { result ≡ write_call b addr v (length icfg.old) (length icfg1.old) }
     ensures first { icfg.new ≡ write_first b addr v icfg.old icfg1.old }

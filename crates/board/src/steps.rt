@@ -18,6 +18,7 @@ const RATE_MAX: u64 = base::RATE_MAX as u64;
 
 // ---- making a board
 
+#[tactic(auto, unfolding(crate::specs::Steps::rate_refused))]
 fn rate(hz: u64) -> u32
     ensures { result ≡ rate_refused hz }
 {
@@ -30,6 +31,7 @@ fn rate(hz: u64) -> u32
     0
 }
 
+#[tactic(auto, unfolding(crate::specs::Steps::new_refused))]
 fn new_refused(hz: u64, queue: usize, script: usize, first: usize, second: usize) -> u32
     ensures { result ≡ new_refused hz queue script first second }
 {
@@ -56,6 +58,7 @@ fn fresh(hz: u32, n: u32) -> Done
 }
 
 // A new board, told the lengths of queue and script, whose memory it leaves alone. A refused one has the rate 0 and is not whole.
+#[tactic(auto, unfolding(crate::specs::Steps::new_call))]
 pub fn made(hz: u64, queue: usize, script: usize, icfg: &mut [u32], icfg1: &mut [u32]) -> Done
     ensures value { result ≡ new_call hz queue script (length icfg.old) (length icfg1.old) }
     ensures first { icfg.new ≡ new_bank (new_refused hz queue script (length icfg.old) (length icfg1.old)) icfg.old }
@@ -72,6 +75,7 @@ pub fn made(hz: u64, queue: usize, script: usize, icfg: &mut [u32], icfg1: &mut 
 
 // ---- actions and reset
 
+#[tactic(auto, unfolding(crate::specs::Steps::apply_call, crate::specs::Steps::apply_queue, crate::specs::Steps::apply_refused))]
 pub fn apply(b: Board, action: Action, queue: &mut [u8]) -> Done
     ensures value { result ≡ apply_call b action (length queue.old) }
     ensures memory { queue.new ≡ apply_queue b action queue.old }
@@ -88,6 +92,7 @@ pub fn apply(b: Board, action: Action, queue: &mut [u8]) -> Done
     turned_away(step::apply(b, action, queue), 0)
 }
 
+#[tactic(auto, unfolding(crate::specs::Steps::reset_call, crate::specs::Steps::reset_first, crate::specs::Steps::reset_second))]
 pub fn chip_reset(b: Board, icfg: &mut [u32], icfg1: &mut [u32]) -> Done
     ensures value { result ≡ reset_call b (length icfg.old) (length icfg1.old) }
     ensures first { icfg.new ≡ reset_first b icfg.old icfg1.old }

@@ -1,5 +1,4 @@
-// The calls of `board_entries` for whoever holds the script by value. A caller that lends entries is proved by a walk of its code, and so is a bridge; whoever calls a bridge need not be.
-// A bridge lends its own copy of the script and answers as the call does.
+// The calls of `board_entries` for whoever holds the script by value: each lends its own copy of the script and answers as the call does.
 #![tactic(auto)]
 
 ghost use Rattle.std.specs.Prelude.{◌≡◌, length};

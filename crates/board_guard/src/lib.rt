@@ -49,6 +49,7 @@ pub fn accepted(mut b: Board, c: Chip) -> Done
 }
 
 // Both banks' lengths: SIZE where one is not a bank's.
+#[tactic(auto, unfolding(crate::specs::Refusals::size_of))]
 pub fn size(first: usize, second: usize) -> u32
     ensures { result ≡ size_of first second }
 {
@@ -62,6 +63,7 @@ pub fn size(first: usize, second: usize) -> u32
 }
 
 // Both banks' lengths, then the record: SIZE, STATE or 0.
+#[tactic(auto, unfolding(crate::specs::Refusals::banks_refused, crate::specs::Refusals::whole_refused))]
 pub fn banks(b: Board, first: usize, second: usize) -> u32
     ensures { result ≡ banks_refused b first second }
 {
@@ -75,6 +77,7 @@ pub fn banks(b: Board, first: usize, second: usize) -> u32
 }
 
 // The board with the chip that a call makes, where the call asks for a whole record and nothing else.
+#[tactic(auto, unfolding(crate::specs::Refusals::whole_refused))]
 pub fn settled(b: Board, c: Chip) -> Done
     ensures { result ≡ answered b (whole_refused b) c }
 {

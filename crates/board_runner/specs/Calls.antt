@@ -1,5 +1,5 @@
 -- The public calls between steps, each by its refusals in document 01's order and by what it does where there is none.
-use Rattle.std.specs.Prelude.{ℕ, ◌^◌, Bool, cond, false, not, List, eqb, leb, ltb, length, replicate}
+use Rattle.std.specs.Prelude.{ℕ, Bool, cond, false, not, List, eqb, leb, ltb, length, replicate}
 use Rattle.base.specs.Limits.{spi_bytes_max, spi_baud_max, ms_max}
 use Rattle.base.specs.Moments.{clock_max, is_deadline}
 use Rattle.irq.specs.Banks.{enabled_for}

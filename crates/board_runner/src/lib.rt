@@ -53,6 +53,7 @@ pub struct Chosen {
 
 // ---- ticks and idle time
 
+#[tactic(auto, unfolding(crate::specs::Calls::tick_call, crate::specs::Calls::tick_refused))]
 pub fn tick(mut b: Board) -> Ticked
     ensures { result ≡ tick_call b }
 {
@@ -79,6 +80,7 @@ pub fn tick(mut b: Board) -> Ticked
     }
 }
 
+#[tactic(auto, unfolding(crate::specs::Calls::room_call, board_guard::specs::Refusals::whole_refused))]
 pub fn tick_room(b: Board) -> Number
     ensures { result ≡ room_call b }
 {
@@ -94,6 +96,7 @@ pub fn tick_room(b: Board) -> Number
     }
 }
 
+#[tactic(auto, unfolding(crate::specs::Calls::next_due_call, board_guard::specs::Refusals::whole_refused))]
 pub fn next_tick_due(b: Board) -> Flag
     ensures { result ≡ next_due_call b }
 {
@@ -109,6 +112,7 @@ pub fn next_tick_due(b: Board) -> Flag
     }
 }
 
+#[tactic(auto, unfolding(crate::specs::Calls::idle_call, crate::specs::Calls::idle_refused))]
 pub fn idle(b: Board) -> Done
     ensures { result ≡ idle_call b }
 {
@@ -123,6 +127,7 @@ pub fn idle(b: Board) -> Done
 
 // ---- interrupts
 
+#[tactic(auto, unfolding(crate::specs::Calls::any_call, board_guard::specs::Refusals::whole_refused))]
 pub fn any_pending(b: Board) -> Flag
     ensures { result ≡ any_call b }
 {
@@ -138,6 +143,7 @@ pub fn any_pending(b: Board) -> Flag
     }
 }
 
+#[tactic(auto, unfolding(crate::specs::Calls::enabled_call))]
 pub fn irq_enabled<'a>(b: Board, core: u32, n: u8, icfg: &'a [u32], icfg1: &'a [u32]) -> Flag
     ensures { result ≡ enabled_call b core n icfg.now icfg1.now }
 {
@@ -154,6 +160,7 @@ pub fn irq_enabled<'a>(b: Board, core: u32, n: u8, icfg: &'a [u32], icfg1: &'a [
     }
 }
 
+#[tactic(auto, unfolding(crate::specs::Calls::choice_call))]
 pub fn pending_irq_for<'a>(b: Board, core: u32, icfg: &'a [u32], icfg1: &'a [u32]) -> Chosen
     ensures { result ≡ choice_call b core icfg.now icfg1.now }
 {
@@ -179,6 +186,7 @@ pub fn pending_irq<'a>(b: Board, icfg: &'a [u32], icfg1: &'a [u32]) -> Chosen
 // ---- LEDs
 
 // How long each LED was lit since the last call, and over how long: two whole numbers, which the host divides.
+#[tactic(auto, unfolding(crate::specs::Calls::led_call, board_guard::specs::Refusals::whole_refused))]
 pub fn led_take(b: Board) -> Lit
     ensures { result ≡ led_call b }
 {
@@ -204,6 +212,7 @@ pub fn led_take(b: Board) -> Lit
 
 // ---- SPI and the shift register
 
+#[tactic(auto, unfolding(crate::specs::Calls::spi1_call, crate::specs::Calls::spi1_refused))]
 pub fn spi1_start(b: Board, bytes: u32, baud: u32, irq: bool) -> Done
     ensures { result ≡ spi1_call b bytes baud irq }
 {
@@ -222,6 +231,7 @@ pub fn spi1_start(b: Board, bytes: u32, baud: u32, irq: bool) -> Done
     accepted(b, runner::spi1_start(b.chip, bytes, baud, irq))
 }
 
+#[tactic(auto, unfolding(crate::specs::Calls::spi2_call, crate::specs::Calls::spi2_refused))]
 pub fn spi2_start(b: Board, bytes: u32, baud: u32, irq: bool) -> Done
     ensures { result ≡ spi2_call b bytes baud irq }
 {
@@ -237,6 +247,7 @@ pub fn spi2_start(b: Board, bytes: u32, baud: u32, irq: bool) -> Done
     accepted(b, runner::spi2_start(b.chip, bytes, baud, irq))
 }
 
+#[tactic(auto, unfolding(crate::specs::Calls::spi1_off_call))]
 pub fn spi1_irq_off(b: Board) -> Done
     ensures { result ≡ spi1_off_call b }
 {
@@ -244,6 +255,7 @@ pub fn spi1_irq_off(b: Board) -> Done
 }
 
 // A byte that SPI2 clocks into the matrix's shift registers.
+#[tactic(auto, unfolding(crate::specs::Calls::shift_call))]
 pub fn sr_shift_byte(b: Board, byte: u8) -> Done
     ensures { result ≡ shift_call b byte }
 {
@@ -252,6 +264,7 @@ pub fn sr_shift_byte(b: Board, byte: u8) -> Done
 
 // ---- times and counts
 
+#[tactic(auto, unfolding(crate::specs::Calls::ms_call, board_guard::specs::Refusals::whole_refused))]
 pub fn ms(b: Board) -> Number
     ensures { result ≡ ms_call b }
 {
@@ -267,6 +280,7 @@ pub fn ms(b: Board) -> Number
     }
 }
 
+#[tactic(auto, unfolding(crate::specs::Calls::cycles_call, crate::specs::Calls::cycles_refused))]
 pub fn cycle_of_ms(b: Board, ms: u64) -> Number
     ensures { result ≡ cycles_call b ms }
 {
@@ -289,6 +303,7 @@ pub fn cycle_of_ms(b: Board, ms: u64) -> Number
 }
 
 // MIDI bytes that wait to arrive.
+#[tactic(auto, unfolding(crate::specs::Calls::queued_call, board_guard::specs::Refusals::whole_refused))]
 pub fn midi_queued(b: Board) -> Number
     ensures { result ≡ queued_call b }
 {
@@ -305,6 +320,7 @@ pub fn midi_queued(b: Board) -> Number
 }
 
 // MIDI bytes dropped: no receiver was set up, or the queue was full.
+#[tactic(auto, unfolding(crate::specs::Calls::dropped_call, board_guard::specs::Refusals::whole_refused))]
 pub fn midi_dropped(b: Board) -> Number
     ensures { result ≡ dropped_call b }
 {
@@ -322,36 +338,42 @@ pub fn midi_dropped(b: Board) -> Number
 
 // ---- settings
 
+#[tactic(auto, unfolding(crate::specs::Calls::ticks_call))]
 pub fn set_cycle_ticks(b: Board, ticks: u64) -> Done
     ensures { result ≡ ticks_call b ticks }
 {
     settled(b, runner::set_cycle_ticks(b.chip, ticks))
 }
 
+#[tactic(auto, unfolding(crate::specs::Calls::skip_call))]
 pub fn set_skip_idle(b: Board, on: bool) -> Done
     ensures { result ≡ skip_call b on }
 {
     settled(b, runner::set_skip_idle(b.chip, on))
 }
 
+#[tactic(auto, unfolding(crate::specs::Calls::isr_call))]
 pub fn set_in_isr(b: Board, on: bool) -> Done
     ensures { result ≡ isr_call b on }
 {
     settled(b, runner::set_in_isr(b.chip, on))
 }
 
+#[tactic(auto, unfolding(crate::specs::Calls::cap_call))]
 pub fn set_room_cap(b: Board, cap: u64) -> Done
     ensures { result ≡ cap_call b cap }
 {
     settled(b, runner::set_room_cap(b.chip, cap))
 }
 
+#[tactic(auto, unfolding(crate::specs::Calls::exc_call))]
 pub fn set_exc_pending(b: Board, on: bool) -> Done
     ensures { result ≡ exc_call b on }
 {
     settled(b, runner::set_exc_pending(b.chip, on))
 }
 
+#[tactic(auto, unfolding(crate::specs::Calls::spi2_flag_call))]
 pub fn set_spi2_pending(b: Board, on: bool) -> Done
     ensures { result ≡ spi2_flag_call b on }
 {
@@ -359,6 +381,7 @@ pub fn set_spi2_pending(b: Board, on: bool) -> Done
 }
 
 // A USB frame's deadline with its period, whatever the deadline.
+#[tactic(auto, unfolding(crate::specs::Calls::usb_call, crate::specs::Calls::usb_refused))]
 pub fn set_usb(b: Board, at: u64, period: u64) -> Done
     ensures { result ≡ usb_call b at period }
 {
@@ -377,6 +400,7 @@ pub fn set_usb(b: Board, at: u64, period: u64) -> Done
     turned_away(b, PARAM)
 }
 
+#[tactic(auto, unfolding(crate::specs::Calls::wdt_call, crate::specs::Calls::wdt_refused))]
 pub fn set_wdt(b: Board, at: u64) -> Done
     ensures { result ≡ wdt_call b at }
 {

@@ -66,6 +66,7 @@ pub fn filled(input: &mut [u8; BUFFER], mut r: Reader) -> Reader
 }
 
 // The bytes up to the line's end, or all there are. A line that fills its room is too long, and stays so.
+#[tactic(auto, unfolding(crate::specs::Lines::taken_of))]
 pub fn taken(input: &[u8; BUFFER], line: &mut [u8; LINE], r: Reader) -> Reader
     ensures value { result ≡ taken_of input.now line.old r }
     ensures bytes { line.new ≡ line_after input.now line.old r }

@@ -25,6 +25,7 @@ pub struct Boarded {
 }
 
 // The action that a line names, by its place in `line_ask`'s list.
+#[tactic(auto, unfolding(crate::specs::Outcomes::action_of))]
 pub fn action(a: Ask) -> Action
     ensures { result ≡ action_of a }
 {
@@ -58,6 +59,7 @@ pub struct Rest {
     pub applied: u64,
 }
 
+#[tactic(auto, unfolding(crate::specs::Outcomes::step_answer, crate::specs::Outcomes::stepped_as))]
 pub fn step_answer(refused: u32, clock: u64, half: Half, byte: Byte, rest: Rest) -> Answer
     ensures { result ≡ step_answer refused clock half byte rest }
 {
@@ -70,6 +72,7 @@ pub fn step_answer(refused: u32, clock: u64, half: Half, byte: Byte, rest: Rest)
     }
 }
 
+#[tactic(auto, unfolding(crate::specs::Outcomes::with_half))]
 fn with_half(clock: u64, addr: u64, words: u64, byte: Byte, r: Rest) -> Answer
     ensures { result ≡ with_half clock addr words byte r }
 {
@@ -87,6 +90,7 @@ fn with_half(clock: u64, addr: u64, words: u64, byte: Byte, r: Rest) -> Answer
     }
 }
 
+#[tactic(auto, unfolding(crate::specs::Outcomes::without_half))]
 fn without(clock: u64, byte: Byte, r: Rest) -> Answer
     ensures { result ≡ without_half clock byte r }
 {
@@ -116,6 +120,7 @@ fn without(clock: u64, byte: Byte, r: Rest) -> Answer
 // ---- a read
 
 // The value; while idle time is skipped also where the clock is.
+#[tactic(auto, unfolding(crate::specs::Outcomes::read_answer, crate::specs::Outcomes::value_answer))]
 pub fn read_answer(refused: u32, value: Value, clock: Clock) -> Answer
     ensures { result ≡ read_answer refused value clock }
 {
@@ -135,6 +140,7 @@ pub fn read_answer(refused: u32, value: Value, clock: Clock) -> Answer
     }
 }
 
+#[tactic(auto, unfolding(crate::specs::Outcomes::when_skipping))]
 fn when_skipping(skip: u32, plain: usize, skipping: usize) -> usize
     ensures { result ≡ when_skipping skip plain skipping }
 {
@@ -147,6 +153,7 @@ fn when_skipping(skip: u32, plain: usize, skipping: usize) -> usize
 // ---- a deed
 
 // SPI1 and idle time answer how far they went.
+#[tactic(auto, unfolding(crate::specs::Outcomes::told_of))]
 pub fn told(call: usize, refused: u32, s: Spi, clock: Clock) -> Answer
     ensures { result ≡ told_of call refused s clock }
 {
@@ -158,6 +165,7 @@ pub fn told(call: usize, refused: u32, s: Spi, clock: Clock) -> Answer
 }
 
 // A deadline, an action and a new board answer the refusal's number itself; the rest 0.
+#[tactic(auto, unfolding(crate::specs::Outcomes::acknowledged_as))]
 fn acknowledged(call: usize, refused: u32) -> Answer
     ensures { result ≡ acknowledged_as call refused }
 {
@@ -167,6 +175,7 @@ fn acknowledged(call: usize, refused: u32) -> Answer
     pair(refused, NUMBER, 0, 0)
 }
 
+#[tactic(auto, unfolding(crate::specs::Outcomes::is_numbered))]
 fn is_numbered(call: usize) -> bool
     ensures { result ≡ is_numbered call }
 {
@@ -176,6 +185,7 @@ fn is_numbered(call: usize) -> bool
 // ---- no call of the board
 
 // What asks nothing of the board.
+#[tactic(auto, unfolding(crate::specs::Outcomes::plain_of))]
 pub fn plain(call: usize, n: u64) -> Answer
     ensures { result ≡ plain_of call n }
 {

@@ -22,6 +22,7 @@ use uart::QUEUE_LEN;
 // ---- a new board, a reset
 
 // A new board in the place of the old one.
+#[tactic(auto, unfolding(crate::specs::Boards::renewed_of))]
 fn renewed(
     b: Board,
     hz: u64,
@@ -37,6 +38,7 @@ fn renewed(
 }
 
 // The old one stays where the rate is refused.
+#[tactic(auto, unfolding(crate::specs::Boards::kept))]
 fn if_made(b: Board, made: Done) -> Done
     ensures { result ≡ kept b made }
 {
@@ -49,6 +51,7 @@ fn if_made(b: Board, made: Done) -> Done
     }
 }
 
+#[tactic(auto, unfolding(crate::specs::Boards::reset_of))]
 fn reset(b: Board, icfg: &mut [u32; BANK_WORDS], icfg1: &mut [u32; BANK_WORDS]) -> Boarded
     ensures value { result ≡ reset_of b icfg.old icfg1.old }
     ensures first { icfg.new ≡ reset_first b icfg.old icfg1.old }
@@ -59,6 +62,7 @@ fn reset(b: Board, icfg: &mut [u32; BANK_WORDS], icfg1: &mut [u32; BANK_WORDS]) 
 
 // ---- any line
 
+#[tactic(auto, unfolding(crate::specs::Boards::boarded_of, crate::specs::Boards::queue_after, crate::specs::Boards::script_after, crate::specs::Boards::lights_after, crate::specs::Boards::first_after, crate::specs::Boards::second_after))]
 pub fn on_board(
     b: Board,
     ask: Ask,
@@ -86,6 +90,7 @@ pub fn on_board(
 }
 
 // One match for all that may touch the banks: each function that answers a board costs a copy of it.
+#[tactic(auto, unfolding(crate::specs::Boards::banked_of, crate::specs::Boards::first_after, crate::specs::Boards::second_after))]
 fn by_banks(
     b: Board,
     ask: Ask,
@@ -108,6 +113,7 @@ fn by_banks(
 }
 
 // Neither registers nor time: the banks stay as they are.
+#[tactic(auto, unfolding(crate::specs::Boards::other_of))]
 fn other<'a>(
     b: Board,
     ask: Ask,
@@ -125,6 +131,7 @@ fn other<'a>(
     }
 }
 
+#[tactic(auto, unfolding(crate::specs::Boards::is_deed))]
 fn is_deed(call: usize) -> bool
     ensures { result ≡ is_deed call }
 {

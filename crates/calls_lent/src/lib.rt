@@ -19,6 +19,7 @@ use step::{OUT_BYTES, Stepped};
 use uart::QUEUE_LEN;
 
 // The records that a step writes of its actions are not shown: the answer has their number.
+#[tactic(auto, unfolding(crate::specs::Lent::stepped_in, crate::specs::Lent::ran_words))]
 pub fn stepped(
     b: Board,
     n: u64,
@@ -32,6 +33,7 @@ pub fn stepped(
     came_to(board_words::advance(b, n, queue, script, &mut acts))
 }
 
+#[tactic(auto, unfolding(crate::specs::Lent::came_to))]
 fn came_to(s: Stepped) -> Boarded
     ensures { result ≡ came_to s }
 {
@@ -68,6 +70,7 @@ pub fn applied(b: Board, ask: Ask, queue: &mut [u8; QUEUE_LEN]) -> Boarded
     by_number(after, d.refused)
 }
 
+#[tactic(auto, unfolding(crate::specs::Lent::numbered))]
 fn by_number(after: Board, refused: u32) -> Boarded
     ensures { result ≡ numbered after refused }
 {
@@ -94,6 +97,7 @@ pub fn lit(b: Board, lights: &mut [u64; 41]) -> Boarded
 
 // ---- registers
 
+#[tactic(auto, unfolding(crate::specs::Lent::reading_of))]
 pub fn read<'a>(
     b: Board,
     addr: u32,
@@ -111,6 +115,7 @@ pub fn read<'a>(
     }
 }
 
+#[tactic(auto, unfolding(crate::specs::Lent::written_of))]
 pub fn write(
     b: Board,
     addr: u32,

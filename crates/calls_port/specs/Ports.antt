@@ -10,7 +10,6 @@ use Rattle.p33.specs.declared.Compared.{Compared}
 use Rattle.p33.specs.declared.Done.{Done}
 use Rattle.p33.specs.declared.Event.{Event}
 use Rattle.p33.specs.declared.Event.TheVariants.{None, Wdt, Reset}
-use Rattle.p33.specs.declared.P33.{P33}
 use Rattle.p33.specs.declared.Snap.{Snap}
 use Rattle.p33.specs.declared.Value.{Value}
 use Rattle.times.specs.Watchdog.{wdt_ms}

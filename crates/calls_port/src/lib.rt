@@ -70,6 +70,7 @@ fn is_of_port(call: usize) -> bool
     (PORT_WRITE <= call) & (call <= PORT_RESET)
 }
 
+#[tactic(auto, unfolding(crate::specs::Ports::carried_of, crate::specs::Ports::carried_in, crate::specs::Ports::carried_aside))]
 fn carried(p: Ports, ask: Ask, regs: &mut [u8; 2048], aside: &mut [u8; 2048]) -> Ported
     ensures value { result ≡ carried_of p ask regs.old aside.old }
     ensures memory { regs.new ≡ carried_in p ask regs.old }
@@ -128,6 +129,7 @@ fn event(mut p: Ports) -> Ported
     }
 }
 
+#[tactic(auto, unfolding(crate::specs::Ports::event_answer))]
 fn event_answer(event: Event) -> Answer
     ensures { result ≡ event_answer event }
 {
@@ -140,6 +142,7 @@ fn event_answer(event: Event) -> Answer
 
 // ---- what leaves the port as it is
 
+#[tactic(auto, unfolding(crate::specs::Ports::looked_of))]
 fn looked(p: Ports, ask: Ask, regs: &[u8; 2048], aside: &[u8; 2048]) -> Answer
     ensures { result ≡ looked_of p ask regs.now aside.now }
 {

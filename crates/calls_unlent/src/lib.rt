@@ -18,6 +18,7 @@ use state::Board;
 
 // ---- calls that answer the board and the number of a refusal
 
+#[tactic(auto, unfolding(crate::specs::Deeds::done_of))]
 pub fn done(call: usize, d: Done) -> Boarded
     ensures { result ≡ done_of call d }
 {
@@ -35,6 +36,7 @@ pub fn deed(b: Board, ask: Ask) -> Boarded
     done(ask.call, did(b, ask))
 }
 
+#[tactic(auto, unfolding(crate::specs::Deeds::did_of))]
 fn did(b: Board, ask: Ask) -> Done
     ensures { result ≡ did_of b ask }
 {
@@ -51,6 +53,7 @@ fn did(b: Board, ask: Ask) -> Done
     }
 }
 
+#[tactic(auto, unfolding(crate::specs::Deeds::set_of))]
 fn set(b: Board, call: usize, n: u64) -> Done
     ensures { result ≡ set_of b call n }
 {
@@ -61,6 +64,7 @@ fn set(b: Board, call: usize, n: u64) -> Done
     }
 }
 
+#[tactic(auto, unfolding(crate::specs::Deeds::flag_set))]
 fn set_flag(b: Board, call: usize, on: bool) -> Done
     ensures { result ≡ flag_set b call on }
 {
@@ -72,6 +76,7 @@ fn set_flag(b: Board, call: usize, on: bool) -> Done
     }
 }
 
+#[tactic(auto, unfolding(crate::specs::Deeds::ticked_of))]
 pub fn ticked(b: Board) -> Boarded
     ensures { result ≡ ticked_of b }
 {

@@ -10,6 +10,7 @@ use line_answer::{Answer, NONE, NUMBER, NUMBERS, PAIR, flag, pair};
 use line_ask::{Ask, CYCLES_OF, ENABLED, IRQ, MS, NEXT_TICK, PENDING, ROOM, STATE};
 use state::Board;
 
+#[tactic(auto, unfolding(crate::specs::Looks::looked_of))]
 pub fn looked<'a>(
     b: Board,
     ask: Ask,
@@ -32,6 +33,7 @@ pub fn looked<'a>(
     }
 }
 
+#[tactic(auto, unfolding(crate::specs::Looks::state_of))]
 fn state(b: Board) -> Answer
     ensures { result ≡ state_of b }
 {
@@ -73,6 +75,7 @@ fn flagged(f: Flag) -> Answer
     flag(f.refused, f.is)
 }
 
+#[tactic(auto, unfolding(crate::specs::Looks::chosen_of))]
 fn chosen(c: Chosen) -> Answer
     ensures { result ≡ chosen_of c.refused c.choice }
 {

@@ -19,13 +19,7 @@ use state::Board;
 // ---- making a board, steps, actions, reset
 
 // A new board at `hz`; queue and script are left alone, the banks are zeroed. CLOCK, SIZE.
-pub fn fm1_new(
-    hz: u64,
-    queue: &[u8],
-    script: &[u64],
-    icfg: &mut [u32],
-    icfg1: &mut [u32],
-) -> Done
+pub fn fm1_new(hz: u64, queue: &[u8], script: &[u64], icfg: &mut [u32], icfg1: &mut [u32]) -> Done
     ensures value { result ≡ new_call hz (length queue.now) (places_in script.now) (length icfg.old) (length icfg1.old) }
     ensures first { icfg.new ≡ new_bank (new_refused hz (length queue.now) (places_in script.now) (length icfg.old) (length icfg1.old)) icfg.old }
     ensures second { icfg1.new ≡ new_bank (new_refused hz (length queue.now) (places_in script.now) (length icfg.old) (length icfg1.old)) icfg1.old }
@@ -85,13 +79,7 @@ pub fn fm1_read<'a>(b: Board, addr: u32, icfg: &'a [u32], icfg1: &'a [u32]) -> R
 }
 
 // Whether the word is a register (`handled`). SIZE, STATE.
-pub fn fm1_write(
-    b: Board,
-    addr: u32,
-    v: u32,
-    icfg: &mut [u32],
-    icfg1: &mut [u32],
-) -> Written
+pub fn fm1_write(b: Board, addr: u32, v: u32, icfg: &mut [u32], icfg1: &mut [u32]) -> Written
     ensures value { result ≡ write_call b addr v (length icfg.old) (length icfg1.old) }
     ensures first { icfg.new ≡ write_first b addr v icfg.old icfg1.old }
     ensures second { icfg1.new ≡ write_second b addr v icfg.old icfg1.old }
@@ -139,25 +127,14 @@ pub fn fm1_any_pending(b: Board) -> Flag
 }
 
 // Whether a core has a source enabled. SIZE, STATE.
-pub fn fm1_irq_enabled<'a>(
-    b: Board,
-    core: u32,
-    n: u8,
-    icfg: &'a [u32],
-    icfg1: &'a [u32],
-) -> Flag
+pub fn fm1_irq_enabled<'a>(b: Board, core: u32, n: u8, icfg: &'a [u32], icfg1: &'a [u32]) -> Flag
     ensures { result ≡ enabled_call b core n icfg.now icfg1.now }
 {
     board::irq_enabled(b, core, n, icfg, icfg1)
 }
 
 // The interrupt that a core takes. SIZE, STATE.
-pub fn fm1_pending_irq_for<'a>(
-    b: Board,
-    core: u32,
-    icfg: &'a [u32],
-    icfg1: &'a [u32],
-) -> Chosen
+pub fn fm1_pending_irq_for<'a>(b: Board, core: u32, icfg: &'a [u32], icfg1: &'a [u32]) -> Chosen
     ensures { result ≡ of_chosen (choice_call b core icfg.now icfg1.now) }
 {
     of_chosen(board::pending_irq_for(b, core, icfg, icfg1))

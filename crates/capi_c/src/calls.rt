@@ -12,8 +12,7 @@ ghost use Rattle.capi_answers.specs.Edge.{of_reading, of_stepped, of_chosen, of_
 ghost use Rattle.capi.specs.Flags.{is_yes};
 
 use board::{Done, Flag, Lit, Number, Ticked, Written};
-use capi_answers::{Advanced, Chosen, Reading, Said, advance, of_chosen, of_id, of_reading};
-use script::action_of;
+use capi_answers::{Advanced, Chosen, Reading, Said};
 use state::Board;
 
 // ---- making a board, steps, actions, reset

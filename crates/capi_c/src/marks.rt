@@ -2,7 +2,6 @@
 ghost use Rattle.std.specs.Prelude.{◌≡◌};
 ghost use Rattle.capi_answers.specs.Marks.{marks};
 
-use capi_answers::marks::marked;
 use state::Board;
 
 // A record that marks its fields. It is not whole.

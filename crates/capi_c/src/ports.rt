@@ -19,10 +19,7 @@ ghost use Rattle.p33.specs.Sameness.{same_snap, same_of};
 ghost use Rattle.capi_answers.specs.Ports.{port_in, of_port_new, of_port_done, of_taken, of_register, of_compared};
 ghost use Rattle.capi.specs.Flags.{is_yes};
 
-use base::when;
-use capi_answers::ports::{of_compared, of_port_done, of_port_new, of_register, of_taken, port_in};
 use capi_answers::{Port, PortAnswered, Said};
-use p33::P33;
 
 // A port at power-on; its memory is zeroed. SIZE.
 #[unsafe(no_mangle)]

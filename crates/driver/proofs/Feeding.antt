@@ -1,17 +1,10 @@
--- What feeding leaves of the bytes that were there: they are brought to the front, and a read goes behind them.
-use mathlib.Core.Path.{◌≡◌, refl, sym, ◌∙◌, ap}
-use mathlib.Core.Bool.{Bool, true, false}
+-- Bytes of a buffer from a place on, brought to its front one after the other.
+use mathlib.Core.Path.{◌≡◌, sym, ◌∙◌, ap}
 use mathlib.Core.List.{List}
-use Prim.Native.Nat.{ℕ, suc, ◌+◌, ◌-◌, ◌≤◌, ◌<◌}
-use native.Mathlib.Nat.{le_refl}
+use Prim.Native.Nat.{ℕ, suc, ◌+◌, ◌≤◌, ◌<◌}
 use native.Mathlib.Omega.{arith}
-use borrow.Author.Tests.{ltb-true, ltb-false}
-use lib.Dec.{ltb}
-use lib.ListN.{length, get_or, set, take, drop, length-drop}
-use lib.Seq.{take-take, get_or-drop, paste, paste-suc, take-paste, drop-paste}
-use Rattle.driver.specs.Stream.{Fed}
-
--- ---- bytes from a place on, brought to the front one after the other
+use lib.ListN.{length, get_or, set, drop, length-drop}
+use lib.Seq.{get_or-drop, paste, paste-suc, drop-paste}
 
 module _ (d : List ℕ) (from n : ℕ) (fits : from + n ≤ length d) where
   abbrev pub front : ℕ → List ℕ
@@ -39,46 +32,3 @@ module _ (d : List ℕ) (from n : ℕ) (fits : from + n ≤ length d) where
       ∙ ap (λ (k : ℕ). set (front i) k (get_or (drop from d) i 0)) e
       ∙ paste-suc d 0 (drop from d) i 0 (omega arith) some
       ∙ ap (λ (k : ℕ). front k) f
-
-  pub all-brought : (input : List ℕ) (i : ℕ) → n ≤ i → i ≤ n → input ≡ front i → take n input ≡ take n (drop from d)
-  all-brought input i h g is =
-      let some : n ≤ length (drop from d) = simp length-drop (omega arith) in
-      let e : i ≡ n = omega arith in
-      let f : n ≡ 0 + n = omega arith in
-      ap (λ (l : List ℕ). take n l) is
-      ∙ ap (λ (k : ℕ). take n (front k)) e
-      ∙ ap (λ (k : ℕ). take k (front n)) f
-      ∙ take-paste d 0 (drop from d) n (omega arith) some
-
--- ---- what feeding ensures
-
-clash : (b : Bool) → b ≡ true → b ≡ false → ⊥
-clash b t f = let q : ◌≡◌ {A = ℕ} 0 1 = cc in omega arith
-
--- as it was
-pub stays : (input : List ℕ) (at len : ℕ) (last : Bool) → at ≤ len → len ≤ length input → (last ≡ false → 17 ≤ len - at) → Fed input at len last input at len last
-stays input at len last o w e = record {
-  order = o;
-  within = w;
-  kept = take-take (len - at) (len - at) (drop at input) (le_refl (len - at));
-  whole = e;
-  ends = λ t f. absurd (clash last t f);
-  still = λ t. (refl, t);
-}
-
-pub stays-last : (input : List ℕ) (at len : ℕ) (last : Bool) → at ≤ len → len ≤ length input → last ≡ true → Fed input at len last input at len last
-stays-last input at len last o w t = stays input at len last o w (λ f. absurd (clash last t f))
-
--- with the bytes that were left in front of those that a read gave
-pub filled-up : (input brought input' : List ℕ) (at len got : ℕ) (last : Bool) → last ≡ false
-    → take (len - at) brought ≡ take (len - at) (drop at input) → take (len - at) input' ≡ take (len - at) brought
-    → len - at + got ≤ length input' → 17 ≤ length input'
-    → Fed input at len last input' 0 (len - at + got) (ltb got (length input' - (len - at)))
-filled-up input brought input' at len got last going b f w long = record {
-  order = omega arith;
-  within = w;
-  kept = take-take (len - at) (len - at + got - 0) input' (omega arith) ∙ f ∙ b;
-  whole = λ e. let g = ltb-false got (length input' - (len - at)) e in omega arith;
-  ends = λ e n. let g = ltb-true got (length input' - (len - at)) e in omega arith;
-  still = λ t. absurd (clash last t going);
-}

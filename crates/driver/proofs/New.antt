@@ -1,7 +1,7 @@
 -- What a driver knows as it begins: a new board, and its own memory.
 use mathlib.Core.Path.{◌≡◌, refl, sym, ◌∙◌, ap, subst}
 use mathlib.Core.List.{List}
-use Prim.Native.Nat.{ℕ, ◌-◌, ◌<◌}
+use Prim.Native.Nat.{ℕ}
 use native.Mathlib.Omega.{arith}
 use lib.ListN.{length, length-map}
 use Rattle.board_guard.specs.Refusals.{size_of}
@@ -51,7 +51,3 @@ module _ (first second : List ℕ) (f : length first ≡ 32) (s : length second 
         second = ap length e.1.1 ∙ bank-long second s;
         acts = a;
       }
-
--- a turn fewer is left
-pub one_fewer : (n : ℕ) → 0 < n → n - 1 < n
-one_fewer n h = omega arith

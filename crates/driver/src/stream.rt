@@ -2,7 +2,7 @@
 ghost use Rattle.std.specs.Prelude.{◌≡◌, false, ◌+◌, ◌-◌, ◌≤◌, ◌<◌, ◌^◌, length, take, drop};
 ghost use Rattle.driver.specs.Stream.{unread_of, Fed};
 
-use text::{STDIN};
+use text::STDIN;
 
 // The bytes of the buffer from `at` up to `len`; the first of them has the offset `base` in the input. After `last` nothing is to be read.
 #[derive(Clone, Copy)]

@@ -20,12 +20,12 @@ module _ (h : Bench) where
   abbrev b : Board
   b = h.board
 
-  -- the answer, all that is held, and what is known of it
+  -- the answer, all that is held, and what is known of it; named as `carry`'s clauses are
   abbrev Ends : RecordAt → Carried → Bench → Type 0
-  Ends found r h' = (r.answer ≡ answer_of h found) × ((h' ≡ after h found) × (BenchOk h → BenchOk h'))
+  Ends found r h' = record { answer_value : r.answer ≡ answer_of h found; bench : h' ≡ after h found; kept : BenchOk h → BenchOk h' }
 
   ends : (found : RecordAt) (r : Carried) (h' : Bench) → r.answer ≡ answer_of h found → h' ≡ after h found → (BenchOk h → BenchOk (after h found)) → Ends found r h'
-  ends found r h' a e k = (a, (e, λ ok. subst BenchOk (sym e) (k ok)))
+  ends found r h' a e k = record { answer_value = a; bench = e; kept = λ ok. subst BenchOk (sym e) (k ok) }
 
   pub push-ends : Typed b → (time next : ℕ) (action : Action) (r : Carried) (s : List ℕ)
       → (r ≡ pushed b h.script time) × (s ≡ stored_words (spot_in b h.script time) h.script time (word_of action))
@@ -64,8 +64,8 @@ module _ (h : Bench) where
 
   pub broken-ends : (at : ℕ) → Ends (Broken at) (record { board = b; answer = BrokenAnswer at }) h
   unfolding answer_of after
-  broken-ends at = (refl, (refl, λ ok. ok))
+  broken-ends at = record { answer_value = refl; bench = refl; kept = λ ok. ok }
 
   pub end-ends : Ends End (record { board = b; answer = Nothing }) h
   unfolding answer_of after
-  end-ends = (refl, (refl, λ ok. ok))
+  end-ends = record { answer_value = refl; bench = refl; kept = λ ok. ok }

@@ -19,13 +19,25 @@ use Rattle.state.specs.declared.Board.{Board}
 use Rattle.state.specs.declared.Chip.{Chip}
 use Rattle.state.specs.declared.Panel.{Panel}
 use Rattle.step.proofs.Applied.{applied-script}
-use Rattle.step.proofs.Loop.{Right}
+use Rattle.step.proofs.Loop.{Loop, Right, left, again, sooner}
 use Rattle.step.proofs.Turns.{shorter-kept, has_room}
 use Rattle.step.specs.Apply.{board_of, apply_of, apply_in}
-use Rattle.step.specs.Step.{Ready, shorter, record_of, reached_of, taken_by, turned_of, queue_of, out_of}
+use Rattle.step.specs.Step.{Ready, shorter, record_of, reached_of, taken_by, turned_of, queue_of, out_of, Ran}
 use Rattle.step.specs.declared.Going.{Going}
 use Rattle.uart.specs.Uart.{queue_bytes}
 use Rattle.driver_turns.specs.Held.{going_by}
+
+-- ---- the loop, by a turn at the entry that was read
+
+module _ (look : ℕ → Entry) (n : ℕ) (q₀ o₀ : List ℕ) (goal z : Ran) (l : Loop look n q₀ o₀ goal z) (on : z.0.on ≡ true) (e : Entry) (is : e ≡ look z.0.place) where
+  pub goes_on_lem : (z' : Ran) → Right z.0 e z.1.0 z.1.1 z'.0 z'.1.0 z'.1.1 → Loop look n q₀ o₀ goal z'
+  goes_on_lem z' right =
+      again look n q₀ o₀ goal z z' l on (subst (λ (x : Entry). Right z.0 x z.1.0 z.1.1 z'.0 z'.1.0 z'.1.1) is right)
+
+  pub fewer : (r : Going) → r ≡ turned_of z.0 e → left r < left z.0
+  fewer r right = sooner look n q₀ o₀ goal z r l on (right ∙ ap (turned_of z.0) is)
+
+-- ---- a turn, by its way
 
 module _ (c : Chip) (p : Panel) (written applied : ℕ) (on : Bool) (e : Entry) (q o : List ℕ) where
   abbrev g : Going

@@ -1,6 +1,6 @@
 -- Texts that loops put part by part.
 use mathlib.Core.Path.{◌≡◌, refl, sym, ◌∙◌, ap}
-use mathlib.Core.List.{List, [], ◌∷◌, ◌++◌}
+use mathlib.Core.List.{List, [], ◌++◌}
 use Prim.Native.Nat.{ℕ, suc, ◌+◌, ◌-◌, ◌≤◌, ◌<◌}
 use native.Mathlib.Numerals.{add-one}
 use native.Mathlib.Omega.{arith}
@@ -24,9 +24,9 @@ pub turn :
     Left before to all out at rest →
     Left before to all mid half y
 turn before all out mid rest x y to at half e p l =
-    let q = then out mid (put_all mid half y) x y at half (place_after_all (length mid) half y) p (refl, refl) in (
-      q.0 ∙ ap (λ (r : List ℕ). place_after_all (length out) at r) (sym e) ∙ l.0,
-      q.1 ∙ ap (λ (r : List ℕ). put_all out at r) (sym e) ∙ l.1,
+    let q = then out mid (put_all mid half y) x y at half (place_after_all (length mid) half y) p (record { place = refl; bytes = refl }) in (
+      q.place ∙ ap (λ (r : List ℕ). place_after_all (length out) at r) (sym e) ∙ l.0,
+      q.bytes ∙ ap (λ (r : List ℕ). put_all out at r) (sym e) ∙ l.1,
     )
 
 pub ended :
@@ -35,10 +35,10 @@ pub ended :
     Left before to all out at rest →
     Put before to all at out
 unfolding place_after_all put_all
-ended before all out rest to at e l = (
-  sym (ap (λ (r : List ℕ). place_after_all (length out) at r) e) ∙ l.0,
-  sym (ap (λ (r : List ℕ). put_all out at r) e) ∙ l.1,
-)
+ended before all out rest to at e l = record {
+  place = sym (ap (λ (r : List ℕ). place_after_all (length out) at r) e) ∙ l.0;
+  bytes = sym (ap (λ (r : List ℕ). put_all out at r) e) ∙ l.1;
+}
 
 -- ---- the marks of a form
 

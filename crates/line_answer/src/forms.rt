@@ -78,6 +78,7 @@ fn next(k: usize, mark: u8) -> usize
     k + 1
 }
 
+#[tactic(auto, unfolding(crate::specs::Forms::digits_of))]
 fn digits(mark: u8) -> usize
     ensures { result ≡ digits_of mark }
 {

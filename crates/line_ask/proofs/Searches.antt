@@ -1,12 +1,11 @@
 -- A turn of the search through a list, and its end.
-use mathlib.Core.Path.{◌≡◌, refl}
+use mathlib.Core.Path.{◌≡◌}
 use mathlib.Core.Bool.{cond}
 use mathlib.Core.List.{List}
 use Prim.Native.Nat.{ℕ, suc, ◌+◌, ◌-◌, ◌*◌, ◌<◌, ◌≤◌}
 use native.Mathlib.Omega.{arith}
 use lib.ListN.{length}
 use Rattle.line_ask.specs.Lists.{is_named, entry_at, find_from}
-use Rattle.line_ask.specs.declared.lists.Found.{Found}
 
 module _ (k : ℕ) (list name : List ℕ) where
   pub find-more :

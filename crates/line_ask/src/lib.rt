@@ -219,6 +219,7 @@ fn fitted(call: usize, kind: usize, one: Number, two: Number, three: Number) -> 
 
 // ---- calls whose second word, or third, is a name
 
+#[tactic(auto, unfolding(crate::specs::Asks::named_as))]
 fn named(k: usize, line: &[u8], w: Words) -> Ask
     ensures { result ≡ named_as k line.now w }
 {

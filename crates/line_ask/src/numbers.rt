@@ -42,6 +42,7 @@ fn within(number: Number, kind: u8) -> Number
 }
 
 // Of 64, 32, 16 and 8 bits, of 31, and a flag.
+#[tactic(auto, unfolding(crate::specs::Numbers::most_of))]
 fn most(kind: u8) -> u64
     ensures { result ≡ most_of kind }
 {

@@ -29,12 +29,12 @@ digit-more {p} {u} {b} d l h =
     let k : b - 48 < 10 = omega arith in
     rw q at (more d k)
 
-grown : {p : List ℕ} {u v : ℕ} → Decimal p u → (s : List ℕ) → digits_after u s ≡ some v → Decimal (p ++ s) v
+grown : (s : List ℕ) {p : List ℕ} {u v : ℕ} → Decimal p u → digits_after u s ≡ some v → Decimal (p ++ s) v
 unfolding digits_after
-grown {p} {u} {v} d [] e = rw (append-nil, ← some-injective u v e) d
-grown {p} {u} {v} d (b ∷ s) e =
+grown [] {p} {u} {v} d e = rw (append-nil, ← some-injective u v e) d
+grown (b ∷ s) {p} {u} {v} d e =
     let r : (48 ≤ b) × (b ≤ 57) × (digits_after (u * 10 + (b - 48)) s ≡ some v) = digit-read b _ e in
-    rw append_assoc at (grown (digit-more d r.0 r.1) s r.2)
+    rw append_assoc at (grown s (digit-more d r.0 r.1) r.2)
 
 pub decimal-of : (s : List ℕ) {v : ℕ} → digits s ≡ some v → Decimal s v
 unfolding digits digits_after
@@ -44,7 +44,7 @@ decimal-of (b ∷ s) {v} e =
     let z : 0 * 10 + (b - 48) ≡ b - 48 = omega arith in
     let q : 48 + (b - 48) ≡ b = omega arith in
     let k : b - 48 < 10 = omega arith in
-    grown (rw q at (one k)) s (rw z at r.2)
+    grown s (rw q at (one k)) (rw z at r.2)
 
 -- digits and one more
 read_more : (s : List ℕ) (u : ℕ) {v d : ℕ} → digits_after u s ≡ some v → d < 10 → digits_after u (s ++ ((48 + d) ∷ [])) ≡ some (v * 10 + d)

@@ -1,7 +1,6 @@
 -- Names are bytes, compared in upper case; the words that they are compared with are ASCII texts.
 use Rattle.std.specs.Prelude.{ℕ, ◌-◌, cond, ◌&&◌, List, [], ◌∷◌, map, leb}
 use Prim.Native.Char.{code}
-use Prim.Native.String
 use Prim.Native.String.{String}
 
 -- Rust's `to_ascii_uppercase`: `a` to `z` are 97 to 122, and `A` is 65. Every other byte stays, so that bytes outside

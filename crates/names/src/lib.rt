@@ -155,6 +155,7 @@ fn button(name: &[u8]) -> Id
     or_word(found, name, b"REC", 13)
 }
 
+#[tactic(auto, unfolding(crate::specs::Midi::semitone_of))]
 fn semitone(letter: u8) -> Id
     ensures { result ≡ answer (semitone_of letter) }
 {

@@ -1,6 +1,6 @@
 -- Two ports are the same exactly when their cores are equal; two snaps likewise.
-use Prim.Native.Nat.{ℕ, zero, suc, ◌<◌}
-use mathlib.Core.Path.{◌≡◌, refl, ap, sym, ◌∙◌}
+use Prim.Native.Nat.{ℕ, ◌<◌}
+use mathlib.Core.Path.{◌≡◌, ap, sym, ◌∙◌}
 use mathlib.Core.Bool.{Bool, true, ◌&&◌}
 use mathlib.Core.List.{List}
 use native.Mathlib.Omega.{arith}
@@ -8,7 +8,6 @@ use lib.Dec.{eqb}
 use lib.ListN.{length, get_or}
 use lib.Seq.{ext_get_or}
 use borrow.Author.Tests.{eq-eqb, eqb-true}
-use Rattle.base.specs.AllTo.{all_to}
 use Rattle.base.proofs.All.{all-at, all_of}
 use Rattle.base.proofs.Flags.{and_left, and_right}
 use Rattle.p33.specs.declared.P33.{P33}

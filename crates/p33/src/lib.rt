@@ -528,7 +528,7 @@ pub fn take_event_in_place(p: &mut P33) -> Event
     taken.event
 }
 
-// Bridges: by value outside, through the lent record inside. Whoever calls one needs no walk.
+// Bridges: by value outside, through the lent record inside.
 
 pub fn write_through(p: P33, regs: &mut [u8], addr: u32, value: u32) -> Done
     ensures { (result ≡ write_of p regs.old addr value) × (regs.new ≡ write_in p regs.old addr value) }

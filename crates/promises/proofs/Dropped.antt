@@ -1,22 +1,22 @@
 -- No byte is dropped without a reason: from what each call does to the MIDI part.
 use mathlib.Core.Path.{◌≡◌, refl, sym, ◌∙◌, ap}
-use mathlib.Core.Bool.{Bool, true, false, cond, ◌&&◌}
+use mathlib.Core.Bool.{Bool, true, false, cond}
 use mathlib.Core.List.{List, [], ◌∷◌, ◌++◌, append-nil, append_assoc}
-use Prim.Native.Nat.{ℕ, suc, ◌+◌, ◌-◌, ◌≤◌, ◌<◌}
+use Prim.Native.Nat.{ℕ, suc, ◌+◌, ◌-◌}
 use native.Mathlib.Omega.{arith}
 use borrow.Author.Tests.{ltb-true, ltb-false}
 use lib.Dec.{eqb, leb, ltb}
-use lib.ListN.{length, take, drop, length-append}
+use lib.ListN.{length, take, length-append}
 use lib.Seq.{take-nil}
 use Rattle.midi_laws.proofs.Does.{Does, all-good}
 use Rattle.midi_laws.specs.Laws.{handed, offered}
 use Rattle.midi_laws.specs.Machine.{final}
-use Rattle.midi_laws.specs.Model.{Midi, midi, move, serve, offer, Step, Hist, due_after, due_with, serving, offering, one, join, run}
+use Rattle.midi_laws.specs.Model.{Midi, midi, move, serve, Hist, due_after, due_with, serving, offering, one, join, run}
 use Rattle.step.specs.Stages.{now_of}
 use Rattle.uart.specs.Uart.{queue_bytes, receives}
 use Rattle.promises.specs.Dropped.{waiting, leaves, gone, rest, room, Accounted, EveryByte}
 use Rattle.promises.specs.Midi.{part, Effect, steps, acts, moves, none, effect_of, offered_in, steps_in, steps_by, offers, byte_time_now, acts_in, acts_of}
-use Rattle.promises.specs.Run.{Held, Call, stepped, made, exec}
+use Rattle.promises.specs.Run.{Held, stepped, made, exec}
 use Rattle.promises.proofs.Midi.{Good, keeps, does, made-good, effect-offered}
 
 -- ---- bytes offered one after the other: as many enter as there is room for

@@ -23,7 +23,7 @@ use Rattle.state.specs.declared.Board.{Board}
 use Rattle.state.specs.declared.Chip.{Chip}
 use Rattle.step.proofs.Outcomes.{refused-step, quiet_step_lem, step-number}
 use Rattle.step.proofs.Refusals.{Accepted, accepted}
-use Rattle.step.proofs.Served.{early}
+use Rattle.step.proofs.Serving.{early}
 use Rattle.step.proofs.Turns.{moved-kept, serving-kept}
 use Rattle.step.specs.Stages.{now_of, hz_of, served_of, first_stages, last_stages}
 use Rattle.step.specs.Step.{waits, front_place, step_refusal, stopped_of, going_of, moved_by, started_of, begun_of, finished_of, settled, Ran, runs, ran, step_of}

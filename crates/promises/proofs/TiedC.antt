@@ -48,7 +48,7 @@ use Rattle.step.specs.declared.Stepped.{Stepped}
 use Rattle.uart.specs.Told.{told_byte}
 use Rattle.uart.specs.declared.Byte.{Byte}
 use Rattle.uart.specs.declared.Byte.TheVariants as byte
-use Rattle.promises.specs.Boundary.{read_back, from_reading, from_chosen, from_moved, from_advanced}
+use Rattle.promises.specs.Boundary.{from_reading, from_chosen, from_moved, from_advanced}
 use Rattle.promises.specs.Refusals.{Answer, of_done, of_ticked, of_number, of_flag, of_reading, of_written, of_lit, of_chosen, of_stepped, Tied}
 use Rattle.promises.specs.Run.{Held, advance, apply, push, read, write, chip_reset, tick, tick_room, next_tick_due, idle, any_pending, irq_enabled, pending_irq, pending_irq_for, led_take, spi1_start, spi2_start, spi1_irq_off, sr_shift_byte, ms, cycle_of_ms, midi_queued, midi_dropped, set_cycle_ticks, set_skip_idle, set_in_isr, set_room_cap, set_exc_pending, set_spi2_pending, set_usb, set_wdt, with_board, made_refused, made}
 use Rattle.promises.proofs.Forms.{both-forms}

@@ -22,7 +22,7 @@ use Rattle.capi_answers.specs.declared.Port.{Port}
 use Rattle.capi_answers.specs.declared.PortAnswered.{PortAnswered}
 use Rattle.capi_answers.specs.declared.Said.{Said as SaidToC}
 use Rattle.p33.specs.P33.{eventless, taken_of, reset_of, reset_in, reg_of, read_of, write_of, write_in}
-use Rattle.p33.specs.Runs.{Held, Call, read, write, reset, take, reg, after, Said, value, refused, event, register, said, Tied}
+use Rattle.p33.specs.Runs.{Held, read, write, reset, take, reg, after, Said, value, refused, event, register, said, Tied}
 use Rattle.p33.specs.Told.{told_event}
 use Rattle.p33.specs.declared.Done.{Done}
 use Rattle.p33.specs.declared.Event.{Event}

@@ -1,6 +1,6 @@
 -- D4, with its reasons: a MIDI byte is dropped only where 3,125 wait as it is offered, or where the UART does not receive as it leaves ("CON0 has 0x41 and end minus start, wrapped, is 1 to 0x10000"). Of
 -- each call that a run makes: what enters, what is handed out, and what `dropped` grows by. The laws of crate `midi_laws` alone would hold of a board that drops every byte.
-use Rattle.std.specs.Prelude.{Bool, true, false, cond, ◌&&◌, List, [], ◌++◌, ◌≡◌, ℕ, ◌+◌, ◌-◌, eqb, leb, length, take, drop}
+use Rattle.std.specs.Prelude.{Bool, false, cond, ◌&&◌, List, [], ◌++◌, ◌≡◌, ℕ, ◌+◌, ◌-◌, eqb, leb, length, take, drop}
 use Rattle.midi_laws.specs.Laws.{handed}
 use Rattle.midi_laws.specs.Machine.{final}
 use Rattle.step.specs.Stages.{now_of}

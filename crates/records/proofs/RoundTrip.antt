@@ -20,7 +20,6 @@ use Rattle.records.specs.declared.Order.TheVariants.{Read, Write, Step}
 use Rattle.records.specs.declared.TimedAt.TheVariants.{Timed}
 use Rattle.records.specs.declared.RecordAt.TheVariants.{Timed as AnyTimed, Order as AnyOrder}
 use Rattle.records.proofs.Numbers.{unle-le}
-use Rattle.records.proofs.NineKinds.{known}
 use Rattle.records.proofs.Kept.{Kept, keeps}
 use Rattle.records.proofs.Inverse.{timed-range}
 use Rattle.records.proofs.Written.{timed-length, order-length, timed-over, order-over}

@@ -244,6 +244,7 @@ fn action_in(kind: u16, s: &[u8]) -> Action
     }
 }
 
+#[tactic(auto, using(base::specs::Tests::tests), unfolding(crate::specs::Layout::length_of, crate::specs::Layout::order_in))]
 fn order_in(kind: u16, s: &[u8]) -> Order
     requires { (0x101 ≤ kind) × (kind ≤ 0x103) × (length_of kind ≤ length s.now) }
     ensures { result ≡ order_in kind s.now }
@@ -262,6 +263,7 @@ fn order_in(kind: u16, s: &[u8]) -> Order
     }
 }
 
+#[tactic(auto, using(base::specs::Tests::tests), unfolding(crate::specs::Layout::length_of))]
 fn length_of(kind: u16) -> usize
     ensures { result ≡ length_of kind }
 {

@@ -29,6 +29,7 @@ pub fn asked(hz: u64, call: usize, n: Numbers) -> u32
     of_board(Board::new((hz % 0x1_0000_0000) as u32), call, n)
 }
 
+#[tactic(auto, unfolding(crate::specs::Asked::of_board))]
 fn of_board(b: Board, call: usize, n: Numbers) -> u32
     ensures { result ≡ of_board b call n }
 {
@@ -45,6 +46,7 @@ fn of_board(b: Board, call: usize, n: Numbers) -> u32
     set(b, call, n.a, n.b)
 }
 
+#[tactic(auto, unfolding(crate::specs::Asked::timed_of))]
 fn timed(b: Board, call: usize, ms: u64) -> u32
     ensures { result ≡ timed_of b call ms }
 {
@@ -60,6 +62,7 @@ fn timed(b: Board, call: usize, ms: u64) -> u32
     }
 }
 
+#[tactic(auto, unfolding(crate::specs::Asked::wired_of))]
 fn wired(b: Board, call: usize, bytes: u32, baud: u32) -> u32
     ensures { result ≡ wired_of b call bytes baud }
 {
@@ -73,6 +76,7 @@ fn wired(b: Board, call: usize, bytes: u32, baud: u32) -> u32
     }
 }
 
+#[tactic(auto, unfolding(crate::specs::Asked::set_of))]
 fn set(b: Board, call: usize, v: u64, w: u64) -> u32
     ensures { result ≡ set_of b call v w }
 {

@@ -23,6 +23,7 @@ pub fn made(hz: u64, bytes: u64, entries: u64, first: u64, second: u64) -> u32
     )
 }
 
+#[tactic(auto, unfolding(crate::specs::Lent::made_with))]
 fn made_with(
     hz: u64,
     bytes: usize,
@@ -64,6 +65,7 @@ pub fn banked(b: Board, call: usize, a: u32, first: u64, second: u64) -> u32
     )
 }
 
+#[tactic(auto, unfolding(crate::specs::Lent::cut_of))]
 fn cut(
     b: Board,
     call: usize,
@@ -83,6 +85,7 @@ fn cut(
     NO_ROOM
 }
 
+#[tactic(auto, unfolding(crate::specs::Lent::banks_of))]
 fn with_banks(b: Board, call: usize, a: u32, icfg: &mut [u32], icfg1: &mut [u32]) -> u32
     ensures { result ≡ banks_of b call a icfg.old icfg1.old }
 {
@@ -93,6 +96,7 @@ fn with_banks(b: Board, call: usize, a: u32, icfg: &mut [u32], icfg1: &mut [u32]
     }
 }
 
+#[tactic(auto, unfolding(crate::specs::Lent::looking_of))]
 fn looking<'a>(b: Board, call: usize, a: u32, icfg: &'a [u32], icfg1: &'a [u32]) -> u32
     ensures { result ≡ looking_of b call a icfg.now icfg1.now }
 {

@@ -3,7 +3,7 @@ use mathlib.Core.Path.{◌≡◌, refl, sym, ap, subst, ◌∙◌}
 use mathlib.Core.Bool.{Bool, true, false, cond, not, ◌&&◌}
 use Prim.Native.Nat.{ℕ, ◌≤◌, ◌<◌, ◌%◌, ◌/◌}
 use lib.Dec.{T, eqb, leb}
-use lib.Ieee.{Float, nan, inf, binary32, of_bits, of_fields, nan_bits, hid, top, div, odd}
+use lib.Ieee.{nan, inf, binary32, of_bits, of_fields, nan_bits, hid, top, div, odd}
 use borrow.Author.Tests.{eqb-true, eq-eqb, ne_eqb}
 use native.Mathlib.Omega.{arith}
 

@@ -53,6 +53,7 @@ fn three_of(b: Board) -> Answer
     }
 }
 
+#[tactic(auto, unfolding(crate::specs::Asked::asked_of))]
 pub fn asked(rows: &[[u64; PLACES]; ROWS], call: usize, n: Numbers) -> u32
     ensures { result ≡ asked_of (board_from rows.now) call n }
 {
@@ -70,6 +71,7 @@ pub fn asked(rows: &[[u64; PLACES]; ROWS], call: usize, n: Numbers) -> u32
     }
 }
 
+#[tactic(auto, unfolding(crate::specs::Asked::timed_of))]
 fn timed(b: Board, call: usize, v: u32, w: u32) -> u32
     ensures { result ≡ timed_of b call v w }
 {

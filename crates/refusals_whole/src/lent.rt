@@ -27,6 +27,7 @@ pub fn step(b: Board, cycles: u64, bytes: u64, words: u64, room: u64, front: u64
     )
 }
 
+#[tactic(auto, unfolding(crate::specs::Lent::stepped_of))]
 fn stepped(
     b: Board,
     cycles: u64,
@@ -63,6 +64,7 @@ pub fn push(b: Board, words: u64, front: u64) -> u32
     pushed(b, &mut script, words as usize)
 }
 
+#[tactic(auto, unfolding(crate::specs::Lent::pushed_in))]
 fn pushed(b: Board, script: &mut [u64], words: usize) -> u32
     ensures { result ≡ pushed_in b script.old words }
 {
@@ -88,6 +90,7 @@ fn action(kind: u64) -> Action
     Action::KeyVel { vel: 1 }
 }
 
+#[tactic(auto, unfolding(crate::specs::Lent::applied_in))]
 fn applied(b: Board, a: Action, queue: &mut [u8], bytes: usize) -> u32
     ensures { result ≡ applied_in b a queue.old bytes }
 {

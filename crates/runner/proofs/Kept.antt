@@ -1,5 +1,5 @@
 -- What the runner asks keeps a whole record whole.
-use Rattle.std.proofs.Common.{◌≡◌, ℕ, ◌+◌, ◌-◌, ◌%◌, ◌^◌, ◌<◌, ◌≤◌, min, max, Bool, true, false, cond, ◌||◌, eqb, ltb, refl, inr, ⊎_elim, le_trans, le_refl, arith, ltb-true}
+use Rattle.std.proofs.Common.{◌≡◌, ℕ, ◌+◌, ◌-◌, ◌%◌, ◌^◌, ◌<◌, ◌≤◌, min, Bool, true, false, cond, ◌||◌, eqb, ltb, refl, inr, ⊎_elim, le_trans, le_refl, arith, ltb-true}
 use Rattle.base.specs.Limits.{spi_bytes_max, spi_baud_max}
 use Rattle.base.specs.Bits.{unless_of}
 use Rattle.base.specs.Moments.{clock_max, never, Deadline}
@@ -17,9 +17,6 @@ use Rattle.state.specs.With.{with_clock, with_spi, clock_at, set_clock, due_at, 
 use Rattle.state.specs.declared.Board.{Board}
 use Rattle.state.specs.declared.Chip.{Chip}
 use Rattle.runner.specs.Runner.{ticked_of, idle_end, jump_to, idled_of, spi1_of, spi1_off_of, spi2_of, shifted_of, light_of, flag_of, with_ticks, with_skip, with_isr, with_cap, with_exc, with_spi2, with_usb, with_wdt}
-
-pub over : (a b : ℕ) → max a b - b ≡ a - b
-over a b = omega arith
 
 -- a word on what is due that is cleared or kept is no later
 unless-most : (t : Bool) (due event : ℕ) → due ≤ event → unless_of t due ≤ event

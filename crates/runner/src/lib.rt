@@ -83,6 +83,7 @@ pub fn next_tick_due(c: Chip) -> bool
 // ---- idle time
 
 // Where an idle processor's clock goes: with skipping on and nothing pending, to just before the next event.
+#[tactic(auto, unfolding(crate::specs::Runner::idle_end))]
 pub fn idle_end(c: Chip) -> u64
     requires { c.clock.cycles ≤ clock_max }
     ensures { result ≡ idle_end c }
@@ -105,6 +106,7 @@ pub fn idle_end(c: Chip) -> u64
 }
 
 // The clock at its end, what it jumped over counted; a jump leaves the next step to look at everything.
+#[tactic(auto, unfolding(crate::specs::Runner::jump_to))]
 fn jumped(mut c: Chip, end: u64) -> Chip
     ensures { result ≡ jump_to c end }
 {
@@ -117,6 +119,7 @@ fn jumped(mut c: Chip, end: u64) -> Chip
     c
 }
 
+#[tactic(auto, unfolding(crate::specs::Runner::idled_of))]
 pub fn idle(c: Chip) -> Chip
     requires { ChipOk c }
     ensures { result ≡ idled_of c }
@@ -142,6 +145,7 @@ pub fn pending_irq_for<'a>(c: Chip, core: u32, icfg: &'a [u32], icfg1: &'a [u32]
 // ---- SPI and the shift register
 
 // A transfer of SPI1; with its interrupt on it is timed.
+#[tactic(auto, unfolding(crate::specs::Runner::spi1_of))]
 pub fn spi1_start(mut c: Chip, bytes: u32, baud: u32, irq: bool) -> Chip
     requires { (bytes ≤ spi_bytes_max) × (baud ≤ spi_baud_max) × (c.clock.cycles ≤ clock_max) × (c.spi.spi1_wire < 2 ^ 62) }
     ensures { result ≡ spi1_of c bytes baud irq }
@@ -155,6 +159,7 @@ pub fn spi1_start(mut c: Chip, bytes: u32, baud: u32, irq: bool) -> Chip
     c
 }
 
+#[tactic(auto, unfolding(crate::specs::Runner::spi1_off_of))]
 pub fn spi1_irq_off(mut c: Chip) -> Chip
     ensures { result ≡ spi1_off_of c }
 {
@@ -163,6 +168,7 @@ pub fn spi1_irq_off(mut c: Chip) -> Chip
     c
 }
 
+#[tactic(auto, unfolding(crate::specs::Runner::spi2_of))]
 pub fn spi2_start(mut c: Chip, bytes: u32, baud: u32, irq: bool) -> Chip
     requires { (bytes ≤ spi_bytes_max) × (baud ≤ spi_baud_max) × (c.clock.cycles ≤ clock_max) }
     ensures { result ≡ spi2_of c bytes baud irq }
@@ -176,6 +182,7 @@ pub fn spi2_start(mut c: Chip, bytes: u32, baud: u32, irq: bool) -> Chip
 }
 
 // A byte that SPI2 clocks into the matrix's shift registers.
+#[tactic(auto, unfolding(crate::specs::Runner::shifted_of))]
 pub fn sr_shift_byte(mut c: Chip, b: u8) -> Chip
     ensures { result ≡ shifted_of c b }
 {
@@ -210,6 +217,7 @@ pub struct Light {
     pub span: u64,
 }
 
+#[tactic(auto, unfolding(crate::specs::Runner::light_of))]
 pub fn led_take(b: Board) -> Light
     requires { Sound b }
     ensures { result ≡ light_of b }
@@ -256,6 +264,7 @@ pub fn set_cycle_ticks(mut c: Chip, ticks: u64) -> Chip
     c
 }
 
+#[tactic(auto, unfolding(crate::specs::Runner::with_skip))]
 pub fn set_skip_idle(mut c: Chip, on: bool) -> Chip
     ensures { result ≡ with_skip c on }
 {
@@ -264,6 +273,7 @@ pub fn set_skip_idle(mut c: Chip, on: bool) -> Chip
     c
 }
 
+#[tactic(auto, unfolding(crate::specs::Runner::with_isr))]
 pub fn set_in_isr(mut c: Chip, on: bool) -> Chip
     ensures { result ≡ with_isr c on }
 {
@@ -279,6 +289,7 @@ pub fn set_room_cap(mut c: Chip, cap: u64) -> Chip
     c
 }
 
+#[tactic(auto, unfolding(crate::specs::Runner::with_exc))]
 pub fn set_exc_pending(mut c: Chip, on: bool) -> Chip
     ensures { result ≡ with_exc c on }
 {
@@ -287,6 +298,7 @@ pub fn set_exc_pending(mut c: Chip, on: bool) -> Chip
     c
 }
 
+#[tactic(auto, unfolding(crate::specs::Runner::with_spi2))]
 pub fn set_spi2_pending(mut c: Chip, on: bool) -> Chip
     ensures { result ≡ with_spi2 c on }
 {

@@ -372,6 +372,7 @@ fn pack(kind: u8, first: u8, second: u32) -> u64
 }
 
 // The action that a word is. Kinds 6 and 7, which `word_of` makes none of, are read as Pressure.
+#[tactic(auto, using(base::specs::Tests::tests), unfolding(crate::specs::Words::action_of))]
 pub fn action_of(w: u64) -> Action
     ensures { result ≡ action_of w }
 {

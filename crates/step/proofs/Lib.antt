@@ -1,4 +1,4 @@
-pub mod Served
+pub mod Serving
 pub mod Applied
 pub mod Refusals
 pub mod Turns

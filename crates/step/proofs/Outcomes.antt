@@ -27,7 +27,7 @@ use Rattle.step.specs.Stages.{now_of, served_of, nothing_due}
 use Rattle.step.specs.Step.{Ready, front_place, waits, step_refusal, stopped_of, going_of, moved_by, started_of, begun_of, later, noted_of, shorter, record_of, records_of, taken_by, turned_of, queue_of, out_of, Ran, turn_of, runs, ran, settled, finished_of, step_of}
 use Rattle.step.specs.declared.Going.{Going}
 use Rattle.step.proofs.Loop.{done, out-length}
-use Rattle.step.proofs.Served.{served-quiet}
+use Rattle.step.proofs.Serving.{served-quiet}
 use Rattle.step.proofs.Turns.{moved-kept, has_room, room_for, begun-goes, turned-goes}
 
 module _ (b : Board) (cycles : ℕ) (look : ℕ → Entry) (n : ℕ) (queue out : List ℕ) where

@@ -33,7 +33,7 @@ use Rattle.step.specs.declared.Going.{Going}
 use Rattle.step.specs.declared.Spot.{Spot}
 use Rattle.step.proofs.Applied.{apply-kept, applied-script, applied-dropped}
 use Rattle.step.proofs.Refusals.{Accepted, accepted, pushable}
-use Rattle.step.proofs.Served.{served-kept}
+use Rattle.step.proofs.Serving.{served-kept}
 
 -- ---- a record's length
 

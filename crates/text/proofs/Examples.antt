@@ -1,7 +1,7 @@
 -- Lines and numbers, worked out.
 use mathlib.Core.Path.{◌≡◌, refl}
 use mathlib.Core.Bool.{true, false}
-use mathlib.Core.List.{List, [], ◌∷◌}
+use mathlib.Core.List.{[], ◌∷◌}
 use Rattle.text.specs.Ascii.{bytes}
 use Rattle.text.specs.Putting.{place_after_all, put_all, places, decimal_of, hex_of}
 use Rattle.text.specs.Spans.{run_length, word_at, same_bytes, is_text, all_spaces, is_passed_over}
@@ -67,7 +67,7 @@ pub no_sign : decimal_in (bytes "+1") ≡ Not
 unfolding decimal_in all_digits value_after digit_of
 no_sign = refl
 
-pub either-case : hex_in 8 (bytes "d_e_ad") ≡ Is 0xdead
+pub either-case : hex_in 8 (bytes "dEAd") ≡ Is 0xdead
 unfolding hex_in all_digits value_after digit_of
 either-case = refl
 

@@ -1,7 +1,6 @@
 -- The bytes of an ASCII text.
 use Rattle.std.specs.Prelude.{ℕ, List, [], ◌∷◌}
 use Prim.Native.Char.{code}
-use Prim.Native.String
 use Prim.Native.String.{String}
 
 abbrev pub bytes : String → List ℕ

@@ -12,6 +12,7 @@ ghost use Rattle.text.specs.HexBytes.{is_dash, is_pairs, pairs, unhexed_answer, 
 
 // The descriptors that a program reads and writes.
 pub const STDIN: i32 = 0;
+
 pub const STDOUT: i32 = 1;
 
 // A word's place in its line.

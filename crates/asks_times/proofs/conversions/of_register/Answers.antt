@@ -1,0 +1,11 @@
+use borrow.Author.Tests.{eq-eqb, ne_eqb}
+use Rattle.asks_times.specs.Conversions.{register_of}
+use Rattle.asks_times.proofs.conversions.of_register.Goals as goal
+
+pub returns-then-hz-eq0 : goal.returns-then-hz-eq0
+unfolding register_of
+returns-then-hz-eq0 c = rw (eq-eqb _ _ c.if-hz-eq0.true)
+
+pub returns : goal.returns
+unfolding register_of
+returns c = rw (ne_eqb _ _ c.if-hz-eq0.false) c.registered_by.ensures

@@ -1,0 +1,13 @@
+-- What the step's loop keeps, whoever holds the script; the turns that are left grow fewer.
+use Rattle.std.proofs.Common.{length}
+use Rattle.script.specs.Entries.{entries_at}
+use Rattle.step.proofs.Loop.{Loop, left}
+use Rattle.step.specs.Step.{ran}
+use Rattle.board_entries.proofs.advance.Given as goal
+
+abbrev pub invariant-loop-p : goal.invariant-loop-p
+invariant-loop-p l =
+    Loop (entries_at l.script) (length l.script) l.fn.queue l.fn.out (ran l.fn.b l.fn.cycles (entries_at l.script) (length l.script) l.fn.queue l.fn.out) (l.g, (l.queue, l.out))
+
+abbrev pub decreases-loop-p : goal.decreases-loop-p
+decreases-loop-p l = left l.g

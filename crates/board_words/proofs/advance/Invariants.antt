@@ -1,0 +1,12 @@
+-- What the step's loop keeps, whoever holds the script; the turns that are left grow fewer.
+use Rattle.script.specs.Words.{words_at, places_in}
+use Rattle.step.proofs.Loop.{Loop, left}
+use Rattle.step.specs.Step.{ran}
+use Rattle.board_words.proofs.advance.Given as goal
+
+abbrev pub invariant-loop-g : goal.invariant-loop-g
+invariant-loop-g l =
+    Loop (words_at l.script) (places_in l.script) l.fn.queue l.fn.out (ran l.fn.b l.fn.cycles (words_at l.script) (places_in l.script) l.fn.queue l.fn.out) (l.g, (l.queue, l.out))
+
+abbrev pub decreases-loop-g : goal.decreases-loop-g
+decreases-loop-g l = left l.g

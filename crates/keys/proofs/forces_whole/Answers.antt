@@ -1,0 +1,13 @@
+use Rattle.base.proofs.Tested.{none-tested, one-more-tested, all_tested}
+use Rattle.keys.specs.Keys.{forces}
+use Rattle.keys.proofs.forces_whole.Goals as goal
+
+pub loop-i-preserved : goal.loop-i-preserved
+loop-i-preserved c = rw c.is_force-ok.ensures (one-more-tested c.loop-i.invariant c.loop-i-test.true)
+
+pub returns : goal.returns
+unfolding forces
+returns c = all_tested c.loop-i.invariant c.loop-i-test.false
+
+pub loop-i-init : goal.loop-i-init
+loop-i-init c = none-tested
