@@ -66,7 +66,7 @@ class Function:
 def public_functions(path):
     """every `pub fn` of a file, `extern "C"` or not"""
     text = read(path)
-    types = [(m.start(), m.group(1)) for m in re.finditer(r"^impl (\w+) \{", text, re.M)]
+    types = [(m.start(), m.group(1)) for m in re.finditer(r"^impl(?:<[^>]*>)? (?:[^\n{]* for )?(\w+)[^\n{]*\{", text, re.M)]
     for m in re.finditer(r'^([ \t]*)pub (?:extern "C" )?fn (\w+)', text, re.M):
         owner = [name for at, name in types if at < m.start()][-1] + "::" if m.group(1) else ""
         yield Function(path, text, m, owner)

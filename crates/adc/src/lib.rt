@@ -5,7 +5,6 @@
 
 ghost use Rattle.std.specs.Prelude.{◌≡◌, ◌≤◌, ◌<◌, ◌^◌, Float};
 ghost use Rattle.keys.specs.Facts.{RampsShort};
-ghost use Rattle.keys.specs.Keys.{ramps_of};
 ghost use Rattle.pressure.specs.Pin.{Ohms, Wired};
 ghost use Rattle.adc.specs.Adc.{
   adc_new,
@@ -16,19 +15,16 @@ ghost use Rattle.adc.specs.Adc.{
   channel_reads,
   con_read,
   acknowledged,
-  line_of,
-  moves_of,
   converted,
   con_written,
   value_set,
 };
 
-use base::least;
-use panel::{Map, Pins, Ramps, ramp_at};
+use panel::{Map, Pins, Ramps};
 use pressure::{OPEN, Pin, next_noise, pin_of, sample, value};
 
 #[repr(C)]
-#[derive(Clone, Copy)]
+#[derive(Clone, Copy, Debug, PartialEq, Eq)]
 pub struct Adc {
     pub con: u32,
     pub noise: u32,
@@ -39,14 +35,14 @@ pub struct Adc {
 }
 
 // The record after a write of CON, and whether the write sets `next_due` to 0.
-#[derive(Clone, Copy)]
+#[derive(Clone, Copy, Debug, PartialEq, Eq)]
 pub struct Wrote {
     pub adc: Adc,
     pub due: bool,
 }
 
 // A value and the noise generator after it.
-#[derive(Clone, Copy)]
+#[derive(Clone, Copy, Debug, PartialEq, Eq)]
 pub struct Sampled {
     pub sample: u16,
     pub noise: u32,
@@ -68,79 +64,49 @@ fn pin_at(pins: Pins, n: u32) -> Pin
 }
 
 // The value of the key of an id, in 256ths; where there is no key, that of an open one.
-fn key_value(
-    t0: &[u64; 41],
-    dur: &[u32; 41],
-    from: &[f32; 41],
-    to: &[f32; 41],
-    id: u8,
-    now: u64,
-    ohms: f32,
-) -> u32
-    requires { RampsShort (ramps_of t0.now dur.now from.now to.now) × Ohms ohms }
-    ensures value { result ≡ key_value (ramps_of t0.now dur.now from.now to.now) now ohms id }
+fn key_value(ramps: &Ramps, id: u8, now: u64, ohms: f32) -> u32
+    requires { RampsShort ramps.now × Ohms ohms }
+    ensures value { result ≡ key_value ramps.now now ohms id }
     ensures bounded { result ≤ 261888 }
 {
     if id < 41 {
-        return value(ramp_at(t0, dur, from, to, id as usize).at(now), ohms);
+        return value(ramps.ramp_at(id as usize).at(now), ohms);
     }
     OPEN
 }
 
 // The least value over the keys of a row in the selected columns.
-fn row_least(
-    map: Map,
-    t0: &[u64; 41],
-    dur: &[u32; 41],
-    from: &[f32; 41],
-    to: &[f32; 41],
-    latched: u16,
-    row: usize,
-    now: u64,
-    ohms: f32,
-) -> u32
-    requires { (row < 6) × RampsShort (ramps_of t0.now dur.now from.now to.now) × Ohms ohms }
-    ensures { result ≡ least_to map (ramps_of t0.now dur.now from.now to.now) latched row now ohms 11 }
+fn row_least(map: Map, ramps: &Ramps, latched: u16, row: usize, now: u64, ohms: f32) -> u32
+    requires { (row < 6) × RampsShort ramps.now × Ohms ohms }
+    ensures { result ≡ least_to map ramps.now latched row now ohms 11 }
 {
-    let mut v = OPEN as u64;
-    let mut col: usize = 0;
-    while col < 11 {
-        let c = col;
-        col = col + 1;
-        if (latched >> c) % 2 == 0 {
-            v = least(
-                v,
-                key_value(t0, dur, from, to, map.id(row, c), now, ohms) as u64,
-            );
+    let mut v = OPEN;
+    for col in 0..11 {
+        if (latched >> col) % 2 == 0 {
+            v = v.min(key_value(ramps, map.id(row, col), now, ohms));
         }
     }
-    v as u32
+    v
 }
 
 // What a row reads through its pin.
 fn row_reads(
     map: Map,
     pins: Pins,
-    t0: &[u64; 41],
-    dur: &[u32; 41],
-    from: &[f32; 41],
-    to: &[f32; 41],
+    ramps: &Ramps,
     row: usize,
     pin: u32,
     stored: u16,
     now: u64,
     noise: u32,
 ) -> Sampled
-    requires { (row < 6) × (pin < 32) × RampsShort (ramps_of t0.now dur.now from.now to.now) }
-    ensures { result ≡ pin_reads (pin_at pins pin) (λ ohms. least_to map (ramps_of t0.now dur.now from.now to.now) pins.sr_latched row now ohms 11) stored noise }
+    requires { (row < 6) × (pin < 32) × RampsShort ramps.now }
+    ensures { result ≡ pin_reads (pin_at pins pin) (λ ohms. least_to map ramps.now pins.sr_latched row now ohms 11) stored noise }
 {
     match pin_at(pins, pin) {
-        Pin::Low => Sampled {
-            sample: 0,
-            noise: noise,
-        },
+        Pin::Low => Sampled { sample: 0, noise },
         Pin::Through(ohms) => {
-            let least = row_least(map, t0, dur, from, to, pins.sr_latched, row, now, ohms);
+            let least = row_least(map, ramps, pins.sr_latched, row, now, ohms);
             let moved = next_noise(noise);
             Sampled {
                 sample: sample(least, moved),
@@ -149,7 +115,7 @@ fn row_reads(
         }
         Pin::Floating => Sampled {
             sample: stored,
-            noise: noise,
+            noise,
         },
     }
 }
@@ -157,26 +123,20 @@ fn row_reads(
 fn channel_reads(
     map: Map,
     pins: Pins,
-    t0: &[u64; 41],
-    dur: &[u32; 41],
-    from: &[f32; 41],
-    to: &[f32; 41],
+    ramps: &Ramps,
     stored: u16,
     now: u64,
     noise: u32,
     ch: u32,
 ) -> Sampled
-    requires { RampsShort (ramps_of t0.now dur.now from.now to.now) }
-    ensures { result ≡ channel_reads map pins (ramps_of t0.now dur.now from.now to.now) stored now noise ch }
+    requires { RampsShort ramps.now }
+    ensures { result ≡ channel_reads map pins ramps.now stored now noise ch }
 {
     if ch < 2 {
         return row_reads(
             map,
             pins,
-            t0,
-            dur,
-            from,
-            to,
+            ramps,
             3 + ch as usize,
             7 + ch,
             stored,
@@ -186,7 +146,7 @@ fn channel_reads(
     }
     Sampled {
         sample: stored,
-        noise: noise,
+        noise,
     }
 }
 
@@ -226,10 +186,7 @@ impl Adc {
         self.con = v;
         self.done = 0;
         self.irq = 0;
-        Wrote {
-            adc: self,
-            due: due,
-        }
+        Wrote { adc: self, due }
     }
 
     // Bit 6 with bit 4: a conversion, from the channel's value that `values` keeps.
@@ -237,58 +194,41 @@ impl Adc {
         self,
         map: Map,
         pins: Pins,
-        t0: &[u64; 41],
-        dur: &[u32; 41],
-        from: &[f32; 41],
-        to: &[f32; 41],
+        ramps: &Ramps,
         values: &[u16; 16],
         now: u64,
         v: u32,
     ) -> Wrote
-        requires { RampsShort (ramps_of t0.now dur.now from.now to.now) }
-        ensures { result ≡ converted self map pins (ramps_of t0.now dur.now from.now to.now) values.now now v }
+        requires { RampsShort ramps.now }
+        ensures { result ≡ converted self map pins ramps.now values.now now v }
     {
         let ch = (v >> 8) % 16;
-        let got = channel_reads(
-            map,
-            pins,
-            t0,
-            dur,
-            from,
-            to,
-            values[ch as usize],
-            now,
-            self.noise,
-            ch,
-        );
+        let got = channel_reads(map, pins, ramps, values[ch as usize], now, self.noise, ch);
         let raises = v & 0x20 != 0;
         Wrote {
             adc: Adc {
                 con: v,
                 noise: got.noise,
                 done: 1,
-                irq: line(raises),
+                irq: u16::from(raises),
                 sample: got.sample,
             },
-            due: moves(raises, self.irq),
+            due: raises == (self.irq == 0),
         }
     }
 
-    // A write of CON, with the keys' ramps and the channels' values where they are kept.
-    pub fn write_con_in(
+    // A write of CON. The keys' ramps and the channels' values stay where they are kept.
+    pub fn write_con(
         mut self,
         map: Map,
         pins: Pins,
-        t0: &[u64; 41],
-        dur: &[u32; 41],
-        from: &[f32; 41],
-        to: &[f32; 41],
+        ramps: &Ramps,
         values: &[u16; 16],
         now: u64,
         v: u32,
     ) -> Wrote
-        requires { RampsShort (ramps_of t0.now dur.now from.now to.now) }
-        ensures { result ≡ con_written self map pins (ramps_of t0.now dur.now from.now to.now) values.now now v }
+        requires { RampsShort ramps.now }
+        ensures { result ≡ con_written self map pins ramps.now values.now now v }
     {
         if v & 0x40 == 0 {
             self.con = v;
@@ -300,46 +240,8 @@ impl Adc {
         if v & 0x10 == 0 {
             return self.acknowledged(v);
         }
-        self.converted(map, pins, t0, dur, from, to, values, now, v)
+        self.converted(map, pins, ramps, values, now, v)
     }
-
-    pub fn write_con(
-        self,
-        map: Map,
-        pins: Pins,
-        ramps: Ramps,
-        values: [u16; 16],
-        now: u64,
-        v: u32,
-    ) -> Wrote
-        requires { RampsShort ramps }
-        ensures { result ≡ con_written self map pins ramps values now v }
-    {
-        let t0 = ramps.t0;
-        let dur = ramps.dur;
-        let from = ramps.from;
-        let to = ramps.to;
-        self.write_con_in(map, pins, &t0, &dur, &from, &to, &values, now, v)
-    }
-}
-
-fn line(raises: bool) -> u16
-    ensures { result ≡ line_of raises }
-{
-    if raises {
-        return 1;
-    }
-    0
-}
-
-// Whether the line changes.
-fn moves(raises: bool, irq: u16) -> bool
-    ensures { result ≡ moves_of raises irq }
-{
-    if raises {
-        return irq == 0;
-    }
-    irq != 0
 }
 
 // Action Adc: a channel's value.
@@ -347,15 +249,6 @@ pub fn set_value(values: &mut [u16; 16], ch: u8, v: u16)
     ensures { values.new ≡ value_set values.old ch v }
 {
     if ch < 16 {
-        values[ch as usize] = least(v as u64, 1023) as u16;
+        values[ch as usize] = v.min(1023);
     }
-}
-
-// The same, handed back.
-pub fn value_set(values: [u16; 16], ch: u8, v: u16) -> [u16; 16]
-    ensures { result ≡ value_set values ch v }
-{
-    let mut a = values;
-    set_value(&mut a, ch, v);
-    a
 }

@@ -1,85 +1,75 @@
 // What a line asks, and its answer. `line_ask` reads the words, `asks_times` and `asks_records` work out the result, `line_answer` shows it.
 ghost use Rattle.std.specs.Prelude.{◌≡◌};
-ghost use Rattle.asks.specs.Answered.{answer_to, answer_by, kind_of, id_answer, number_answer};
+ghost use Rattle.asks.specs.Answered.{question_named, answer_to, answer_in, asked_of, id_answer};
 
 use asks_records::record_in;
 use asks_times::{ramp_in, reckoned};
-use line_answer::{Answer, NO_CALL, NO_LINE, NONE, number, two};
-use line_ask::{Ask, NAMED, NO_NAME, Words, id_in, rest, words_of};
-use text::{Number, Span, is, is_passed_over};
+use line_answer::Answer;
+use line_ask::{Words, id_in};
+use text::{find, is_passed_over};
 
-// The questions that do not take plain numbers alone, and all others.
-const KEY_ID: usize = 0;
+// The questions that do not take plain numbers alone.
+#[derive(Clone, Copy, Debug, PartialEq, Eq)]
+enum Question {
+    KeyId,
+    EncId,
+    Force,
+    Record,
+}
 
-const ENC_ID: usize = 1;
+const QUESTIONS: [(&[u8], Question); 4] = [
+    (b"keyid", Question::KeyId),
+    (b"encid", Question::EncId),
+    (b"force", Question::Force),
+    (b"record", Question::Record),
+];
 
-const FORCE: usize = 2;
-
-const RECORD: usize = 3;
-
-const NUMBERS: usize = 4;
+impl Question {
+    fn named(name: &[u8]) -> Option<Question>
+        ensures { result ≡ question_named name.now }
+    {
+        find(&QUESTIONS, name)
+    }
+}
 
 #[tactic(auto, unfolding(crate::specs::Answered::answer_to))]
 pub fn answer(line: &[u8]) -> Answer
     ensures { result ≡ answer_to line.now }
 {
     if is_passed_over(line) {
-        return two(NO_LINE, 0, 0);
+        return Answer::NoLine;
     }
-    let w = words_of(line);
-    answer_by(kind_of(line, w.verb), line, w)
+    answer_in(Words::of(line)).unwrap_or(Answer::NoCall)
 }
 
-#[tactic(auto, unfolding(crate::specs::Answered::kind_of))]
-fn kind_of(line: &[u8], verb: Span) -> usize
-    ensures { result ≡ kind_of line.now verb }
+#[tactic(auto, unfolding(crate::specs::Answered::answer_in))]
+fn answer_in(words: Words) -> Option<Answer>
+    ensures { result ≡ answer_in words.entry.line.now words.entry.word }
 {
-    if is(line, verb, b"keyid") {
-        return KEY_ID;
+    match Question::named(words.bytes()) {
+        Some(q) => asked_of(q, words.next()),
+        None => reckoned(words).map(Answer::Number),
     }
-    if is(line, verb, b"encid") {
-        return ENC_ID;
-    }
-    if is(line, verb, b"force") {
-        return FORCE;
-    }
-    if is(line, verb, b"record") {
-        return RECORD;
-    }
-    NUMBERS
 }
 
-#[tactic(auto, unfolding(crate::specs::Answered::answer_by))]
-fn answer_by(k: usize, line: &[u8], w: Words) -> Answer
-    ensures { result ≡ answer_by k line.now w }
+#[tactic(auto, unfolding(crate::specs::Answered::asked_of))]
+fn asked_of(q: Question, words: Words) -> Option<Answer>
+    ensures { result ≡ asked_of q words.entry.line.now words.entry.word }
 {
-    match k {
-        KEY_ID => id_answer(id_in(line, rest(w), true)),
-        ENC_ID => id_answer(id_in(line, rest(w), false)),
-        FORCE => number_answer(ramp_in(line, w)),
-        RECORD => record_in(line, w),
-        _ => number_answer(reckoned(line, w)),
+    match q {
+        Question::KeyId => id_in(words, true).map(id_answer),
+        Question::EncId => id_in(words, false).map(id_answer),
+        Question::Force => ramp_in(words).map(Answer::Number),
+        Question::Record => record_in(words),
     }
 }
 
 #[tactic(auto, unfolding(crate::specs::Answered::id_answer))]
-fn id_answer(q: Ask) -> Answer
-    ensures { result ≡ id_answer q }
+fn id_answer(id: Option<u8>) -> Answer
+    ensures { result ≡ id_answer id }
 {
-    let k = q.call;
-    match k {
-        NAMED => number(q.n),
-        NO_NAME => two(NONE, 0, 0),
-        _ => two(NO_CALL, 0, 0),
-    }
-}
-
-#[tactic(auto, unfolding(crate::specs::Answered::number_answer))]
-fn number_answer(n: Number) -> Answer
-    ensures { result ≡ number_answer n }
-{
-    match n {
-        Number::Is(v) => number(v),
-        Number::Not => two(NO_CALL, 0, 0),
+    match id {
+        Some(k) => Answer::Number(u64::from(k)),
+        None => Answer::NoValue,
     }
 }

@@ -26,10 +26,11 @@
 mod answers;
 
 use answers::answer;
-use line_answer::{Answer, LONG_LINE, put_line, two};
-use text::{STDIN, STDOUT, Span, bytes_of, first, line_end, put_text};
+use line_answer::{Answer, put_line};
+use line_ask::LINE;
+use text::{STDIN, STDOUT, first, put_text};
 
-// The line so far, and the answers that wait.
+// The bytes of the line so far, and of the answers that wait.
 #[derive(Clone, Copy)]
 struct Went {
     line: usize,
@@ -38,73 +39,58 @@ struct Went {
 
 fn main() {
     let mut input = [0u8; 65536];
-    let mut line = [0u8; 4097];
+    let mut line = [0u8; LINE];
     let mut out = [0u8; 65536];
     let mut went = Went { line: 0, out: 0 };
-    let mut turns = u64::MAX;
-    while 0 < turns {
-        turns = turns - 1;
+    for _ in 0..u64::MAX {
         let got = io::read_full(STDIN, &mut input);
         if got == 0 {
             break;
         }
         went = chunk(first(&input, got), &mut line, &mut out, went);
     }
-    let last = ended(&line, went.line, &mut out, went.out);
-    flush(&out, last);
+    let last = ended(first(&line, went.line), &mut out, went.out);
+    flush(first(&out, last));
 }
 
 // The bytes of one read, line by line: what stands before a line's end joins the line, and the end answers it. A full line is too long, and stays so.
-fn chunk(input: &[u8], line: &mut [u8], out: &mut [u8], went: Went) -> Went {
-    let mut n = went.line;
-    let mut to = went.out;
-    let mut from: usize = 0;
-    while from < input.len() {
-        let end = line_end(input, from);
-        n = put_text(
-            line,
-            n,
-            bytes_of(
-                input,
-                Span {
-                    from: from,
-                    to: end,
-                },
-            ),
-        );
-        if end < input.len() {
-            to = ended(line, n, out, to);
-            n = 0;
-            from = end + 1;
+fn chunk(input: &[u8], line: &mut [u8], out: &mut [u8], mut went: Went) -> Went {
+    for part in input.split_inclusive(|b| *b == b'\n') {
+        if let [end @ .., b'\n'] = part {
+            let n = put_text(line, went.line, end);
+            went = Went {
+                line: 0,
+                out: ended(first(line, n), out, went.out),
+            };
         } else {
-            from = input.len();
+            went.line = put_text(line, went.line, part);
         }
     }
-    Went { line: n, out: to }
+    went
 }
 
 // The line is answered; what waits is written out before there could be no room for the next answer. No answer here shows lights.
-fn ended(line: &[u8], n: usize, out: &mut [u8], waits: usize) -> usize {
+fn ended(line: &[u8], out: &mut [u8], waits: usize) -> usize {
     let lights = [0u64; 41];
     let to = flushed(out, waits);
-    put_line(out, to, first(line, n), answered(line, n), &lights)
+    put_line(out, to, line, answered(line), &lights)
 }
 
-fn answered(line: &[u8], n: usize) -> Answer {
-    if n < line.len() {
-        return answer(first(line, n));
+fn answered(line: &[u8]) -> Answer {
+    if line.len() < LINE {
+        return answer(line);
     }
-    two(LONG_LINE, 0, 0)
+    Answer::LongLine
 }
 
 fn flushed(out: &[u8], to: usize) -> usize {
     if 57344 < to {
-        flush(out, to);
+        flush(first(out, to));
         return 0;
     }
     to
 }
 
-fn flush(out: &[u8], n: usize) {
-    io::write_all(STDOUT, first(out, n));
+fn flush(waits: &[u8]) {
+    io::write_all(STDOUT, waits);
 }

@@ -3,7 +3,7 @@ ghost use Rattle.std.specs.Prelude.{◌≡◌};
 ghost use Rattle.records.specs.Layout.{bytes_of_timed, bytes_of_order};
 ghost use Rattle.asks_records.specs.Again.{is_again, is_copied};
 
-use records::{Action, Order, Wrote};
+use records::{Action, Order};
 use text::{Span, first, is};
 
 #[tactic(auto, unfolding(crate::specs::Again::is_again))]
@@ -25,10 +25,10 @@ pub fn order_again(bytes: &[u8], at: usize, next: usize, order: Order) -> bool
 }
 
 #[tactic(auto, unfolding(crate::specs::Again::is_copied))]
-fn is_copied(bytes: &[u8], at: usize, next: usize, wrote: Wrote, copy: &[u8; 32]) -> bool
+fn is_copied(bytes: &[u8], at: usize, next: usize, wrote: Option<usize>, copy: &[u8; 32]) -> bool
     ensures { result ≡ is_copied bytes.now at next wrote copy.now }
 {
-    let Wrote::Next { next: n } = wrote else {
+    let Some(n) = wrote else {
         return false;
     };
     is(bytes, Span { from: at, to: next }, first(copy, n))

@@ -1,3 +1,4 @@
+pub mod Rates
 pub mod Conversions
 pub mod Forces
 pub mod Questions

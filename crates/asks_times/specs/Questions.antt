@@ -1,43 +1,50 @@
--- Questions of numbers: by their places in the list, with the types of their numbers; the rate is the last.
-use Rattle.std.specs.Prelude.{ℕ, cond, List, eqb, ltb, leb}
-use Rattle.base.specs.Limits.{rate_min, rate_max}
-use Rattle.line_ask.specs.Asks.{listed_as}
-use Rattle.line_ask.specs.declared.Ask.{Ask}
-use Rattle.line_ask.specs.declared.words_in.Words.{Words}
-use Rattle.text.specs.Ascii.{bytes}
-use Rattle.text.specs.declared.Number.{Number}
-use Rattle.text.specs.declared.Number.TheVariants.{Is, Not}
+-- Questions of numbers, by their names; the rate is the last number.
+use Rattle.std.specs.Prelude.{ℕ, cond, List, eqb, Option, Some, None}
+use Rattle.std.specs.Option.{option_map, option_and_then}
+use Rattle.std.specs.Str.{bytes_eq}
+use Rattle.line_ask.specs.Numbers.{u32_of, u16_of, u8_of, one_in, two_in, three_in}
+use Rattle.text.specs.Tables.{found}
+use Rattle.line_ask.specs.WordsIn.{behind}
+use Rattle.text.specs.Numerals.{decimal_in}
+use Rattle.text.specs.Spans.{bytes_in}
+use Rattle.text.specs.declared.Span.{Span}
+use Rattle.times.specs.Clocks.{mhz24_of_cycles, byte_time, ramp_cycles}
 use Rattle.times.specs.Watchdog.{wdt_ms}
 use Rattle.times.specs.Wide.{mul_div}
-use Rattle.asks_times.specs.Conversions.{at_rate, transfer_of, time_of, register_of}
+use Rattle.times.specs.declared.RampTime.TheVariants.{Press, Release, Pressure}
+use Rattle.asks_times.specs.Conversions.{spi1_in, spi2_in, count_in, milliseconds_of, cycles_in, period_of, count_of, half_of, timeout_of}
 use Rattle.asks_times.specs.Forces.{velocity_of}
+use Rattle.asks_times.specs.Rates.{rate_of}
+use Rattle.asks_times.specs.declared.Question.{Question}
+use Rattle.asks_times.specs.declared.Question.TheVariants as q
+use Rattle.asks_times.specs.declared.TheConstants.{QUESTIONS}
 
-unfoldable pub question_names : List ℕ
-question_names = bytes "muldiv      www wdt         b-- velocity    b-- byte        d-- press       d-- release     d-- pressure    d-- spi1of      ddd spi2of      ddd t4          wd- t5count     wd- ms          wd- cycles      wd- t5          dd- count       dd- half        hd- timeout     dd- "
-
--- "Clock rate 1,000,000 to 800,000,000 Hz"; 0 for any other number
-abbrev pub rate_of : ℕ → ℕ
-rate_of n = cond (ltb n rate_min) 0 (cond (ltb rate_max n) 0 n)
+unfoldable pub question_named : List ℕ → Option Question
+question_named name = found (λ row. bytes_eq row.0.now name) QUESTIONS
 
 -- the low 32 bits of a * b / c
-unfoldable pub mul_div_of : ℕ → ℕ → ℕ → Number
-mul_div_of a b c = cond (eqb c 0) Not (Is (mul_div a b c))
+unfoldable pub mul_div_of : ℕ → ℕ → ℕ → Option ℕ
+mul_div_of a b c = cond (eqb c 0) None (Some (mul_div a b c))
 
--- those that take no rate: `muldiv`, `wdt`, `velocity`
-unfoldable pub plain_of : ℕ → Ask → Number
-plain_of k q =
-    cond (eqb k 0) (mul_div_of q.n q.m q.l)
-    (cond (eqb k 1) (Is (wdt_ms q.b))
-    (Is (velocity_of q.b)))
+-- a question's numbers
+unfoldable pub number_of : Question → List ℕ → Span → Option ℕ
+number_of q.MulDiv line w = option_and_then (λ p. mul_div_of p.0 p.1 p.2) (three_in decimal_in decimal_in decimal_in line w)
+number_of q.Watchdog line w = option_map wdt_ms (one_in u8_of line w)
+number_of q.Velocity line w = option_map velocity_of (one_in u8_of line w)
+number_of q.Byte line w = option_map (λ r. byte_time r.0) (one_in rate_of line w)
+number_of q.Press line w = option_map (λ r. ramp_cycles Press r.0) (one_in rate_of line w)
+number_of q.Release line w = option_map (λ r. ramp_cycles Release r.0) (one_in rate_of line w)
+number_of q.Pressure line w = option_map (λ r. ramp_cycles Pressure r.0) (one_in rate_of line w)
+number_of q.Spi1 line w = option_and_then (λ p. spi1_in p.0 p.1 p.2.0) (three_in u32_of u32_of rate_of line w)
+number_of q.Spi2 line w = option_and_then (λ p. spi2_in p.0 p.1 p.2.0) (three_in u32_of u32_of rate_of line w)
+number_of q.Timer4 line w = option_map (λ p. mhz24_of_cycles p.0 p.1.0) (two_in decimal_in rate_of line w)
+number_of q.Timer5Count line w = option_and_then (λ p. count_in p.0 p.1.0) (two_in decimal_in rate_of line w)
+number_of q.Ms line w = option_and_then (λ p. milliseconds_of p.0 p.1.0) (two_in decimal_in rate_of line w)
+number_of q.Cycles line w = option_and_then (λ p. cycles_in p.0 p.1.0) (two_in decimal_in rate_of line w)
+number_of q.Timer5 line w = option_map (λ p. period_of p.0 p.1.0) (two_in u32_of rate_of line w)
+number_of q.Count line w = option_and_then (λ p. count_of p.0 p.1.0) (two_in u32_of rate_of line w)
+number_of q.Half line w = option_map (λ p. half_of p.0 p.1.0) (two_in u16_of rate_of line w)
+number_of q.Timeout line w = option_map (λ p. timeout_of p.0 p.1.0) (two_in u32_of rate_of line w)
 
-unfoldable pub number_of : Ask → Number
-number_of q =
-    cond (ltb q.call 3) (plain_of q.call q)
-    (cond (ltb q.call 7) (at_rate q.call (rate_of q.n))
-    (cond (ltb q.call 9) (transfer_of q.call q.a q.v (rate_of q.l))
-    (cond (ltb q.call 13) (time_of q.call q.n (rate_of q.m))
-    (cond (leb q.call 16) (register_of q.call q.a (rate_of q.m))
-    Not))))
-
-unfoldable pub reckoned_in : List ℕ → Words → Number
-reckoned_in line w = number_of (listed_as question_names 0 line w)
+unfoldable pub reckoned_in : List ℕ → Span → Option ℕ
+reckoned_in line w = option_and_then (λ q. number_of q line (behind line w)) (question_named (bytes_in line w))

@@ -1,113 +1,157 @@
-// Times and forces by lines of text, as `asks` takes them: a question's number, or `Not` where the line asks nothing that is known here or lies outside
-// 01's domain. `line_ask` reads the words: a list says which questions there are and what numbers they take. The rate is the last number.
+// Times and forces by lines of text, as `asks` takes them: a question's number, or `None` where the line asks nothing that is known here or lies outside
+// 01's domain. `line_ask` reads the words: a table says which questions there are. The rate is the last number.
 #![tactic(auto)]
 
 mod conversions;
 mod force;
+mod rate;
 
 ghost use Rattle.std.specs.Prelude.{◌≡◌};
-ghost use Rattle.asks_times.specs.Questions.{reckoned_in, number_of, plain_of, mul_div_of, rate_of};
+ghost use Rattle.asks_times.specs.Questions.{question_named, reckoned_in, number_of, mul_div_of};
 
-use conversions::{at_rate, of_register, of_time, transfer};
+use conversions::{
+    count, cycles, half, milliseconds, spi1, spi2, timeout, timer5_count, timer5_period,
+};
 use force::of_velocity;
 pub use force::ramp_in;
-use line_ask::{Ask, Words, listed};
-use text::Number;
+use line_ask::Words;
+use rate::Rate;
+use text::find;
+use times::{Cycles, RampTime};
 
-const RATE_MIN: u64 = base::RATE_MIN as u64;
-
-const RATE_MAX: u64 = base::RATE_MAX as u64;
-
-// The questions, by their places in the list.
-const MUL_DIV: usize = 0;
-
-const WATCHDOG: usize = 1;
-
-const BYTE: usize = 3;
-
-const PRESS: usize = 4;
-
-const RELEASE: usize = 5;
-
-const SPI1: usize = 7;
-
-const T4: usize = 9;
-
-const T5_COUNT: usize = 10;
-
-const MS: usize = 11;
-
-const T5: usize = 13;
-
-const COUNT: usize = 14;
-
-const HALF: usize = 15;
-
-const TIMEOUT: usize = 16;
-
-pub fn reckoned(line: &[u8], w: Words) -> Number
-    ensures { result ≡ reckoned_in line.now w }
-{
-    number_of(listed(
-        b"muldiv      www wdt         b-- velocity    b-- byte        d-- press       d-- release     d-- pressure    d-- spi1of      ddd spi2of      ddd t4          wd- t5count     wd- ms          wd- cycles      wd- t5          dd- count       dd- half        hd- timeout     dd- ",
-        0,
-        line,
-        w,
-    ))
+#[derive(Clone, Copy, Debug, PartialEq, Eq)]
+enum Question {
+    MulDiv,
+    Watchdog,
+    Velocity,
+    Byte,
+    Press,
+    Release,
+    Pressure,
+    Spi1,
+    Spi2,
+    Timer4,
+    Timer5Count,
+    Ms,
+    Cycles,
+    Timer5,
+    Count,
+    Half,
+    Timeout,
 }
 
-fn number_of(q: Ask) -> Number
-    ensures { result ≡ number_of q }
-{
-    let k = q.call;
-    if k < BYTE {
-        return of_plain(k, q);
-    }
-    if k < SPI1 {
-        return at_rate(k, rate(q.n));
-    }
-    if k < T4 {
-        return transfer(k, q.a, q.v, rate(q.l));
-    }
-    if k < T5 {
-        return of_time(k, q.n, rate(q.m));
-    }
-    if k <= TIMEOUT {
-        return of_register(k, q.a, rate(q.m));
-    }
-    Number::Not
-}
+const QUESTIONS: [(&[u8], Question); 17] = [
+    (b"muldiv", Question::MulDiv),
+    (b"wdt", Question::Watchdog),
+    (b"velocity", Question::Velocity),
+    (b"byte", Question::Byte),
+    (b"press", Question::Press),
+    (b"release", Question::Release),
+    (b"pressure", Question::Pressure),
+    (b"spi1of", Question::Spi1),
+    (b"spi2of", Question::Spi2),
+    (b"t4", Question::Timer4),
+    (b"t5count", Question::Timer5Count),
+    (b"ms", Question::Ms),
+    (b"cycles", Question::Cycles),
+    (b"t5", Question::Timer5),
+    (b"count", Question::Count),
+    (b"half", Question::Half),
+    (b"timeout", Question::Timeout),
+];
 
-// Those that take no rate.
-#[tactic(auto, unfolding(crate::specs::Questions::plain_of))]
-fn of_plain(k: usize, q: Ask) -> Number
-    ensures { result ≡ plain_of k q }
-{
-    match k {
-        MUL_DIV => mul_div(q.n, q.m, q.l),
-        WATCHDOG => Number::Is(times::wdt_ms(q.b)),
-        _ => Number::Is(of_velocity(q.b)),
+impl Question {
+    fn named(name: &[u8]) -> Option<Question>
+        ensures { result ≡ question_named name.now }
+    {
+        find(&QUESTIONS, name)
     }
 }
 
-fn mul_div(a: u64, b: u64, c: u64) -> Number
+// The line's first word names the question.
+#[tactic(auto, unfolding(crate::specs::Questions::reckoned_in))]
+pub fn reckoned(words: Words) -> Option<u64>
+    ensures { result ≡ reckoned_in words.entry.line.now words.entry.word }
+{
+    number_of(Question::named(words.bytes())?, words.next())
+}
+
+#[tactic(auto, unfolding(crate::specs::Questions::number_of))]
+fn number_of(q: Question, words: Words) -> Option<u64>
+    ensures { result ≡ number_of q words.entry.line.now words.entry.word }
+{
+    match q {
+        Question::MulDiv => {
+            let (a, b, c) = words.three()?;
+            mul_div(a, b, c)
+        }
+        Question::Watchdog => Some(times::wdt_ms(words.one()?)),
+        Question::Velocity => Some(of_velocity(words.one()?)),
+        Question::Byte => {
+            let Rate(hz) = words.one()?;
+            Some(times::midi_byte_time(hz).0)
+        }
+        Question::Press => {
+            let Rate(hz) = words.one()?;
+            Some(times::ms_cycles(RampTime::Press, hz).0)
+        }
+        Question::Release => {
+            let Rate(hz) = words.one()?;
+            Some(times::ms_cycles(RampTime::Release, hz).0)
+        }
+        Question::Pressure => {
+            let Rate(hz) = words.one()?;
+            Some(times::ms_cycles(RampTime::Pressure, hz).0)
+        }
+        Question::Spi1 => {
+            let (bytes, baud, Rate(hz)) = words.three()?;
+            spi1(bytes, baud, hz)
+        }
+        Question::Spi2 => {
+            let (bytes, baud, Rate(hz)) = words.three()?;
+            spi2(bytes, baud, hz)
+        }
+        Question::Timer4 => {
+            let (n, Rate(hz)) = words.two()?;
+            Some(u64::from(times::mhz24_of_cycles(Cycles(n), hz).0))
+        }
+        Question::Timer5Count => {
+            let (n, Rate(hz)) = words.two()?;
+            timer5_count(Cycles(n), hz)
+        }
+        Question::Ms => {
+            let (n, Rate(hz)) = words.two()?;
+            milliseconds(Cycles(n), hz)
+        }
+        Question::Cycles => {
+            let (ms, Rate(hz)) = words.two()?;
+            cycles(ms, hz)
+        }
+        Question::Timer5 => {
+            let (period, Rate(hz)) = words.two()?;
+            Some(timer5_period(period, hz))
+        }
+        Question::Count => {
+            let (code, Rate(hz)) = words.two()?;
+            count(code, hz)
+        }
+        Question::Half => {
+            let (len, Rate(hz)) = words.two()?;
+            Some(half(len, hz))
+        }
+        Question::Timeout => {
+            let (wait, Rate(hz)) = words.two()?;
+            Some(timeout(wait, hz))
+        }
+    }
+}
+
+#[tactic(auto, unfolding(crate::specs::Questions::mul_div_of))]
+fn mul_div(a: u64, b: u64, c: u64) -> Option<u64>
     ensures { result ≡ mul_div_of a b c }
 {
     if c == 0 {
-        return Number::Not;
+        return None;
     }
-    Number::Is(times::mul_div(a, b, c) as u64)
-}
-
-// A rate in 01's range, 0 for any other number.
-fn rate(n: u64) -> u32
-    ensures { result ≡ rate_of n }
-{
-    if n < RATE_MIN {
-        return 0;
-    }
-    if RATE_MAX < n {
-        return 0;
-    }
-    n as u32
+    Some(u64::from(times::mul_div(a, b, c)))
 }

@@ -8,7 +8,7 @@ use Rattle.base.specs.Moments.{clock_max}
 use Rattle.times.specs.Clocks.{cycles_of_mhz24}
 use Rattle.times.proofs.Quotients.{slower}
 use Rattle.audio.specs.declared.Audio.{Audio}
-use Rattle.audio.specs.declared.Half.TheVariants.{None}
+use Rattle.std.specs.Prelude.{None}
 use Rattle.audio.specs.Audio.{words_of, half_period, finished, audio_at, con0_written, con1_written, pend_written, con3_written, adr_written, len_written}
 use Rattle.audio.specs.Facts.{AudioOk}
 

@@ -1,11 +1,10 @@
 -- ALNK0 (0x12e00): a finished half, and each register as it reads and is written, in the source's order.
-use Rattle.std.specs.Prelude.{ℕ, ◌+◌, ◌-◌, ◌*◌, ◌/◌, ◌%◌, ◌^◌, max, Bool, cond, ◌&&◌, bit_and, bit_or, nat_le, nat_lt}
+use Rattle.std.specs.Prelude.{ℕ, ◌+◌, ◌-◌, ◌*◌, ◌/◌, ◌%◌, ◌^◌, max, Bool, cond, ◌&&◌, bit_and, bit_or, nat_le, nat_lt, Some, None}
 use Rattle.base.specs.Bits.{is_set, when_of}
 use Rattle.base.specs.Moments.{never, is_deadline, started_of, switched_of}
 use Rattle.times.specs.Clocks.{cycles_of_mhz24}
 use Rattle.audio.specs.declared.Audio.{Audio}
 use Rattle.audio.specs.declared.Played.{Played}
-use Rattle.audio.specs.declared.Half.TheVariants.{Done, None}
 
 abbrev pub audio_new : Audio
 audio_new =
@@ -52,7 +51,7 @@ finished a hz =
 unfoldable pub audio_at : Audio → ℕ → ℕ → Played
 audio_at a now hz =
     cond (nat_lt now a.next) (record { audio = a; half = None })
-    (record { audio = finished a hz; half = Done (half_addr a) (words_of a) })
+    (record { audio = finished a hz; half = Some (record { addr = half_addr a; words = words_of a }) })
 
 -- 0x12e00: bit 15 is the half playing
 abbrev pub con0_read : Audio → ℕ

@@ -20,7 +20,7 @@ ghost use Rattle.audio.specs.Audio.{
   audio_whole,
 };
 
-use base::{NEVER, most, switched};
+use base::{NEVER, switched};
 use times::{Cycles, Mhz24};
 
 #[repr(C)]
@@ -40,16 +40,16 @@ pub struct Audio {
 }
 
 // A half buffer that finished playing: its address and its words.
-#[derive(Clone, Copy)]
-pub enum Half {
-    Done { addr: u32, words: u32 },
-    None,
+#[derive(Clone, Copy, Debug, PartialEq, Eq)]
+pub struct Half {
+    pub addr: u32,
+    pub words: u32,
 }
 
 #[derive(Clone, Copy)]
 pub struct Played {
     pub audio: Audio,
-    pub half: Half,
+    pub half: Option<Half>,
 }
 
 // 24 MHz counts of an I2S frame (44.1 kHz), of which a word is half
@@ -75,19 +75,21 @@ impl Audio {
     fn words(self) -> u32
         ensures { result ≡ words_of self }
     {
-        most(self.len as u64, 2) as u32
+        self.len.max(2)
     }
 
+    #[tactic(auto, using(base::specs::Tests::tests), unfolding(crate::specs::Audio::half_period))]
     fn half_period(self, hz: u32) -> Cycles
         requires { self.len ≤ 65535 }
         ensures result_value { result.0 ≡ half_period self hz }
         ensures bounded { (0 < result.0) × (result.0 ≤ 2 ^ 32) }
     {
         let counts = self.words() / 2 * FRAME_T4;
-        Cycles(most(times::cycles_of_mhz24(Mhz24(counts), hz).0, 1))
+        Cycles(times::cycles_of_mhz24(Mhz24(counts), hz).0.max(1))
     }
 
     // What the moment makes of it, and the half that it finds finished.
+    #[tactic(auto, using(base::specs::Tests::tests), unfolding(crate::specs::Audio::audio_at, crate::specs::Audio::finished))]
     pub fn at(mut self, now: u64, hz: u32) -> Played
         requires { (self.half ≤ 1) × (self.len ≤ 65535) × (now ≤ clock_max) }
         ensures { result ≡ audio_at self now hz }
@@ -95,19 +97,19 @@ impl Audio {
         if now < self.next {
             return Played {
                 audio: self,
-                half: Half::None,
+                half: None,
             };
         }
         let words = self.words();
-        let addr = std::num::wrapping_add_u32(self.adr, (self.half as u32) * words * 4);
+        let addr = self.adr.wrapping_add((self.half as u32) * words * 4);
         let period = self.half_period(hz);
         self.next = self.next + period.0;
-        self.halves = std::num::wrapping_add_u64(self.halves, 1);
+        self.halves = self.halves.wrapping_add(1);
         self.half = 1 - self.half;
         self.pend = self.pend | pends(self.con1);
         Played {
             audio: self,
-            half: Half::Done { addr, words },
+            half: Some(Half { addr, words }),
         }
     }
 
@@ -119,6 +121,7 @@ impl Audio {
     }
 
     // Bit 11 starts the first half, or stops.
+    #[tactic(auto, using(base::specs::Tests::tests), unfolding(crate::specs::Audio::con0_written))]
     pub fn write_con0(mut self, v: u32, now: u64, hz: u32) -> Self
         requires { (self.len ≤ 65535) × (now ≤ clock_max) }
         ensures { result ≡ con0_written self v now hz }

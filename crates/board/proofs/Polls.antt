@@ -10,7 +10,7 @@ use Rattle.base.proofs.Flags.{and_left}
 use Rattle.base.specs.Bits.{is_set}
 use Rattle.base.specs.Moments.{clock_max}
 use Rattle.regs.specs.Reads.{read_of, t4_read, polls_at, polled_of}
-use Rattle.regs.specs.declared.reads.Value.TheVariants.{Is}
+use Rattle.std.specs.Prelude.{Some}
 use Rattle.state.specs.State.{board_whole}
 use Rattle.state.specs.With.{with_chip}
 use Rattle.state.specs.declared.Board.{Board}
@@ -30,7 +30,7 @@ polls-count c addr e =
     (and_left (eqb addr 0x10804 && running) on (and_left (eqb addr 0x10804 && running && on) (eqb c.clock.in_isr 0) e)))
 
 count-read : (c : Chip) (icfg icfg1 : List ℕ) (addr : ℕ) → addr ≡ 0x10804
-    → read_of c icfg icfg1 addr ≡ Is (t4_cnt c.t4 c.clock.cycles c.clock.hz)
+    → read_of c icfg icfg1 addr ≡ Some (t4_cnt c.t4 c.clock.cycles c.clock.hz)
 unfolding read_of t4_read
 count-read c icfg icfg1 addr e = rw e
 
@@ -75,9 +75,9 @@ module _ (b : Board) (addr : ℕ) (icfg icfg1 : List ℕ) (n : ℕ) (e : n ≡ b
       where
         go : (t : Bool)
             → cond (eqb (cond t 7 0) 0)
-            (record { board = with_chip b (polled_of b.chip); refused = 0; value = Is (t4_cnt (polled_of b.chip).t4 (polled_of b.chip).clock.cycles (polled_of b.chip).clock.hz) })
+            (record { board = with_chip b (polled_of b.chip); refused = 0; value = Some (t4_cnt (polled_of b.chip).t4 (polled_of b.chip).clock.cycles (polled_of b.chip).clock.hz) })
             (no_read b (cond t 7 0))
             ≡ cond t (no_read b 7)
-            (record { board = with_chip b (polled_of b.chip); refused = 0; value = Is (t4_cnt (polled_of b.chip).t4 (polled_of b.chip).clock.cycles (polled_of b.chip).clock.hz) })
+            (record { board = with_chip b (polled_of b.chip); refused = 0; value = Some (t4_cnt (polled_of b.chip).t4 (polled_of b.chip).clock.cycles (polled_of b.chip).clock.hz) })
         go true = refl
         go false = refl

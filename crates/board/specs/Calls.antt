@@ -1,9 +1,8 @@
 -- The calls of registers, each by its refusals in document 01's order and by what it does where there is none.
-use Rattle.std.specs.Prelude.{ℕ, cond, false, not, List, eqb, ltb, length}
+use Rattle.std.specs.Prelude.{ℕ, cond, false, not, List, eqb, ltb, length, Some, None}
 use Rattle.base.specs.Moments.{clock_max}
 use Rattle.regs.specs.Reads.{read_of, polls_at, polled_of}
 use Rattle.regs.specs.Writes.{handled_at, board_written, first_written, second_written}
-use Rattle.regs.specs.declared.reads.Value.TheVariants.{Is, None}
 use Rattle.state.specs.State.{board_whole}
 use Rattle.state.specs.With.{with_chip}
 use Rattle.state.specs.declared.Board.{Board}
@@ -33,7 +32,7 @@ unfoldable pub counted_of : Board → Reading
 counted_of b =
     let c = polled_of b.chip in
     cond (ltb clock_max c.clock.cycles) (no_read b TIME)
-    (record { board = with_chip b c; refused = 0; value = Is (t4_cnt c.t4 c.clock.cycles c.clock.hz) })
+    (record { board = with_chip b c; refused = 0; value = Some (t4_cnt c.t4 c.clock.cycles c.clock.hz) })
 
 unfoldable pub read_call : Board → ℕ → List ℕ → List ℕ → Reading
 read_call b addr icfg icfg1 =

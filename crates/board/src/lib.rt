@@ -19,7 +19,6 @@ pub use board_runner::{
     set_exc_pending, set_in_isr, set_room_cap, set_skip_idle, set_spi2_pending, set_usb, set_wdt,
     spi1_irq_off, spi1_start, spi2_start, sr_shift_byte, tick, tick_room,
 };
-use regs::Value;
 use state::Board;
 pub use steps::{apply, chip_reset, made};
 
@@ -27,7 +26,7 @@ pub use steps::{apply, chip_reset, made};
 pub struct Reading {
     pub board: Board,
     pub refused: u32,
-    pub value: Value,
+    pub value: Option<u32>,
 }
 
 #[repr(C)]
@@ -46,7 +45,7 @@ fn no_read(b: Board, n: u32) -> Reading
     Reading {
         board: b,
         refused: n,
-        value: Value::None,
+        value: None,
     }
 }
 
@@ -65,7 +64,7 @@ fn counted(mut b: Board) -> Reading
     Reading {
         board: b,
         refused: 0,
-        value: Value::Is(n.0),
+        value: Some(n.0),
     }
 }
 

@@ -50,9 +50,8 @@ fn new_refused(hz: u64, queue: usize, script: usize, first: usize, second: usize
 fn fresh(hz: u32, n: u32) -> Done
     ensures { result ≡ turned_of (board_new hz) n }
 {
-    let b = Board::new(hz);
     Done {
-        board: b,
+        board: Board::new(hz),
         refused: n,
     }
 }

@@ -1,5 +1,5 @@
 // The step and the push over a script that is lent as entries. Both answer for any record and any lent lengths. Their loops read one entry at a time and leave everything else to
-// crate `step`; no field of a record that holds the board is read here, so that the proofs need not know what such a record is.
+// crate `step`.
 #![tactic(auto)]
 
 ghost use Rattle.std.specs.Prelude.{◌≡◌, length};
@@ -12,7 +12,7 @@ use board::{Done, made};
 use records::Action;
 use script::{Entry, look};
 use state::Board;
-use step::{Going, Spot, Stepped, begun, finished, front_place, placed, pushed, turned};
+use step::{Stepped, begun, finished, front_place, placed, pushed, turned};
 
 // A new board at `hz`, with empty queue and script, whose memory it leaves alone; the banks are zeroed.
 pub fn new(hz: u64, queue: &[u8], script: &[Entry], icfg: &mut [u32], icfg1: &mut [u32]) -> Done
@@ -24,18 +24,6 @@ pub fn new(hz: u64, queue: &[u8], script: &[Entry], icfg: &mut [u32], icfg1: &mu
     made(hz, queue.len(), f.len, icfg, icfg1)
 }
 
-fn goes(g: Going) -> bool
-    ensures { result ≡ g.on }
-{
-    g.on
-}
-
-fn place_of(g: Going) -> usize
-    ensures { result ≡ g.place }
-{
-    g.place
-}
-
 // Advances by `cycles` and hands out what came due; actions that came due are applied, and written to `out` as records with the times that the script gave.
 pub fn advance(b: Board, cycles: u64, queue: &mut [u8], script: &[Entry], out: &mut [u8]) -> Stepped
     ensures { (result ≡ finished_of (ran b cycles (entries_at script.now) (length script.now) queue.old out.old).0)
@@ -44,23 +32,10 @@ pub fn advance(b: Board, cycles: u64, queue: &mut [u8], script: &[Entry], out: &
 {
     let f = look(script, front_place(b));
     let mut g = begun(b, cycles, f, queue, out);
-    while goes(g) {
-        let p = place_of(g);
-        g = turned(g, script[p], queue, out);
+    while g.on {
+        g = turned(g, script[g.place], queue, out);
     }
     finished(g)
-}
-
-fn fits(s: Spot) -> bool
-    ensures { result ≡ s.ok }
-{
-    s.ok
-}
-
-fn spot_of(s: Spot) -> usize
-    ensures { result ≡ s.place }
-{
-    s.place
 }
 
 // An entry onto the script. STATE also where entries wait and the lent front's time is not the record's: record and memory were not handed on together.
@@ -69,12 +44,8 @@ pub fn push(b: Board, script: &mut [Entry], time: u64, action: Action) -> Done
 {
     let f = look(script, front_place(b));
     let s = placed(b, f, time);
-    if fits(s) {
-        let p = spot_of(s);
-        script[p] = Entry {
-            at: time,
-            action: action,
-        };
+    if s.ok {
+        script[s.place] = Entry { at: time, action };
     }
     pushed(s)
 }

@@ -51,10 +51,7 @@ pub fn advance_in(
 fn with_script(p: Done, script: [Entry; SCRIPT_LEN]) -> Held
     ensures { (result.pushing ≡ p) × (result.script ≡ script) }
 {
-    Held {
-        pushing: p,
-        script: script,
-    }
+    Held { pushing: p, script }
 }
 
 pub fn push_in(b: Board, script: [Entry; SCRIPT_LEN], time: u64, action: Action) -> Held

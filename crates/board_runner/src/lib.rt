@@ -48,7 +48,7 @@ pub struct Number {
 #[derive(Clone, Copy)]
 pub struct Chosen {
     pub refused: u32,
-    pub choice: Choice,
+    pub choice: Option<Choice>,
 }
 
 // ---- ticks and idle time
@@ -71,12 +71,11 @@ pub fn tick(mut b: Board) -> Ticked
             due: false,
         };
     }
-    let c = runner::tick(b.chip);
-    b.chip = c;
+    b.chip = runner::tick(b.chip);
     Ticked {
         board: b,
         refused: 0,
-        due: runner::is_due(c),
+        due: runner::is_due(b.chip),
     }
 }
 
@@ -149,10 +148,7 @@ pub fn irq_enabled<'a>(b: Board, core: u32, n: u8, icfg: &'a [u32], icfg1: &'a [
 {
     let refused = banks(b, icfg.len(), icfg1.len());
     if refused != 0 {
-        return Flag {
-            refused: refused,
-            is: false,
-        };
+        return Flag { refused, is: false };
     }
     Flag {
         refused: 0,
@@ -168,7 +164,7 @@ pub fn pending_irq_for<'a>(b: Board, core: u32, icfg: &'a [u32], icfg1: &'a [u32
     if n != 0 {
         return Chosen {
             refused: n,
-            choice: Choice::None,
+            choice: None,
         };
     }
     Chosen {
@@ -191,20 +187,19 @@ pub fn led_take(b: Board) -> Lit
     ensures { result ≡ led_call b }
 {
     if broken(b) {
-        let dark = [0u64; 41];
         return Lit {
             board: b,
-            lit: dark,
+            lit: [0; 41],
             span: 0,
             refused: STATE,
         };
     }
     let t = runner::led_take(b);
-    let d = t.board;
+    // through a variable: an array that is stored straight has no generated proof
     let lit = t.lit;
     Lit {
-        board: d,
-        lit: lit,
+        board: t.board,
+        lit,
         span: t.span,
         refused: 0,
     }

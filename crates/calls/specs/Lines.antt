@@ -1,19 +1,21 @@
 -- Lines out of the input: what a read leaves, and what of the bytes that were read goes to the line.
-use Rattle.std.specs.Prelude.{ℕ, ◌+◌, ◌≤◌, ◌<◌, Bool, true, false, cond, List, ◌≡◌, eqb, ltb, length}
+use Rattle.std.specs.Prelude.{ℕ, ◌+◌, ◌≤◌, ◌<◌, cond, List, ◌≡◌, eqb, ltb, length}
 use Rattle.text.specs.Putting.{first_of, place_after_all, put_all}
 use Rattle.text.specs.Spans.{line_end, bytes_in}
+use Rattle.calls.specs.declared.lines.End.{End}
+use Rattle.calls.specs.declared.lines.End.TheVariants.{Open, Line, Input}
 use Rattle.calls.specs.declared.lines.Reader.{Reader}
 
 abbrev pub reader_new : Reader
-reader_new = record { at = 0; got = 0; len = 0; whole = false; over = false }
+reader_new = record { at = 0; got = 0; len = 0; end = Open }
 
 -- the next line begins
 abbrev pub begun_of : Reader → Reader
-begun_of r = record { at = r.at; got = r.got; len = 0; whole = false; over = r.over }
+begun_of r = record { at = r.at; got = r.got; len = 0; end = Open }
 
 -- so many bytes were read: none is the input's end, and the line's
 abbrev pub read_of : Reader → ℕ → Reader
-read_of r got = record { at = 0; got = got; len = r.len; whole = eqb got 0; over = eqb got 0 }
+read_of r got = record { at = 0; got = got; len = r.len; end = cond (eqb got 0) Input Open }
 
 -- Nothing can be said of the bytes that a read gives. While some are left none are read.
 pub record Filled (input : List ℕ) (r : Reader) (input' : List ℕ) (r' : Reader) : Type 0 where
@@ -36,11 +38,11 @@ part_in input r = bytes_in (bytes_read input r) (record { from = r.at; to = end_
 abbrev pub line_after : List ℕ → List ℕ → Reader → List ℕ
 line_after input line r = put_all line r.len (part_in input r)
 
-abbrev pub went_to : Reader → ℕ → ℕ → Bool → Reader
-went_to r at len whole = record { at = at; got = r.got; len = len; whole = whole; over = r.over }
+abbrev pub went_to : Reader → ℕ → ℕ → End → Reader
+went_to r at len end = record { at = at; got = r.got; len = len; end = end }
 
 unfoldable pub taken_of : List ℕ → List ℕ → Reader → Reader
 taken_of input line r =
     cond (ltb (end_in input r) (length (bytes_read input r)))
-    (went_to r (end_in input r + 1) (place_after_all (length line) r.len (part_in input r)) true)
-    (went_to r (end_in input r) (place_after_all (length line) r.len (part_in input r)) r.whole)
+    (went_to r (end_in input r + 1) (place_after_all (length line) r.len (part_in input r)) Line)
+    (went_to r (end_in input r) (place_after_all (length line) r.len (part_in input r)) r.end)

@@ -36,10 +36,10 @@ mod lines;
 mod written;
 
 use board_guard::BANK_WORDS;
-use calls_board::on_board;
+use calls_board::{Memory, on_board};
 use calls_port::{Ports, on_port};
 use line_ask::{LINE, asked};
-use lines::{BUFFER, begun, filled, left, taken};
+use lines::{BUFFER, End, Reader};
 use p33::P33;
 use script::{SCRIPT_LEN, SCRIPT_WORDS};
 use uart::QUEUE_LEN;
@@ -47,50 +47,49 @@ use written::{flush, put_line};
 
 const RATE: u64 = 240_000_000;
 
+#[tactic(auto, unfolding(p33::specs::P33::new_of))]
 fn main() {
     let mut input = [0u8; BUFFER];
     let mut line = [0u8; LINE];
     let mut out = [0u8; BUFFER];
     let mut regs = [0u8; 2048];
     let mut aside = [0u8; 2048];
-    let mut queue = [0u8; QUEUE_LEN];
-    let mut script = [0u64; SCRIPT_WORDS];
-    let mut icfg = [0u32; BANK_WORDS];
-    let mut icfg1 = [0u32; BANK_WORDS];
-    let mut lights = [0u64; 41];
-    let made = board::made(RATE, QUEUE_LEN, SCRIPT_LEN, &mut icfg, &mut icfg1);
-    let mut b = made.board;
-    let port = P33::new(&mut regs).port;
-    let mut ports = Ports {
-        port: port,
-        kept: port,
+    let mut memory = Memory {
+        queue: [0; QUEUE_LEN],
+        script: [0; SCRIPT_WORDS],
+        icfg: [0; BANK_WORDS],
+        icfg1: [0; BANK_WORDS],
+        lights: [0; 41],
     };
-    let mut reader = lines::new();
-    let mut to: usize = 0;
-    let mut turns = u64::MAX;
-    while 0 < turns {
-        reader = filled(&mut input, reader);
-        reader = taken(&input, &mut line, reader);
-        if reader.whole {
-            let ask = asked(&line, reader.len);
-            let c = on_board(
-                b,
-                ask,
-                &mut queue,
-                &mut script,
-                &mut icfg,
-                &mut icfg1,
-                &mut lights,
-            );
-            b = c.board;
-            let answer = c.answer;
-            let p = on_port(ports, ask, answer, &mut regs, &mut aside);
-            ports = p.ports;
-            let said = p.answer;
-            to = put_line(&mut out, to, &line, reader.len, said, &lights);
-            reader = begun(reader);
+    let made = board::made(
+        RATE,
+        QUEUE_LEN,
+        SCRIPT_LEN,
+        &mut memory.icfg,
+        &mut memory.icfg1,
+    );
+    let mut b = made.board;
+    let port = P33::new(&mut regs).unwrap();
+    let mut ports = Ports { port, kept: port };
+    let mut reader = Reader::new();
+    let mut to = 0;
+    for _ in 0..u64::MAX {
+        reader = reader.filled(&mut input).taken(&input, &mut line);
+        if reader.end == End::Open {
+            continue;
         }
-        turns = left(turns, reader.over);
+        let ask = asked(&line, reader.len);
+        let c = on_board(b, ask, &mut memory);
+        b = c.board;
+        let answer = c.answer;
+        let p = on_port(ports, ask, answer, &mut regs, &mut aside);
+        ports = p.ports;
+        let said = p.answer;
+        to = put_line(&mut out, to, &line, reader.len, said, &memory.lights);
+        if reader.end == End::Input {
+            break;
+        }
+        reader = reader.begun();
     }
     flush(&out, to);
 }

@@ -1,23 +1,30 @@
-// What a line asks of the board, carried out: by the memory that its call is lent, the bytes behind the jack, the script as words, the banks; `lights` takes the
-// LEDs' times. The calls themselves are in `calls_unlent` and `calls_lent`, but for a new board and a reset.
+// What a line asks of the board, carried out by the memory that its call is lent. The calls themselves are in `calls_unlent` and `calls_lent`, but for a new board and a reset.
 #![tactic(auto)]
 
 ghost use Rattle.std.specs.Prelude.{◌≡◌};
 ghost use Rattle.board.specs.Steps.{new_bank, reset_first, reset_second};
-ghost use Rattle.calls_board.specs.Boards.{kept, renewed_of, made_refused, reset_of, is_deed, other_of, banked_of, first_after, second_after, boarded_of, queue_after, script_after, lights_after};
+ghost use Rattle.calls_board.specs.Boards.{boarded_of, kept, looked_of, made_refused, memory_after, renewed_of, reset_of};
 
 use board::Done;
 use board_guard::BANK_WORDS;
-use calls_answers::Boarded;
+use calls_answers::{Boarded, Tells, named};
 use calls_lent::{applied, lit, pushed, read, stepped, write};
-use calls_unlent::{deed, done, looked, ticked};
-use line_ask::{
-    APPLY, Ask, CYCLE_TICKS, IDLE, LED, NEW, PUSH, READ, RESET, SPI2, SPI2_PENDING, STEP, TICK,
-    WRITE,
-};
+use calls_unlent::{chosen, counted, done, flagged, set, state, ticked};
+use line_answer::Answer;
+use line_ask::Ask;
 use script::{SCRIPT_LEN, SCRIPT_WORDS};
 use state::Board;
 use uart::QUEUE_LEN;
+
+// What the calls are lent: the bytes behind the jack, the script as words, the banks; `lights` takes the LEDs' times.
+#[derive(Drop)]
+pub struct Memory {
+    pub queue: [u8; QUEUE_LEN],
+    pub script: [u64; SCRIPT_WORDS],
+    pub icfg: [u32; BANK_WORDS],
+    pub icfg1: [u32; BANK_WORDS],
+    pub lights: [u64; 41],
+}
 
 // ---- a new board, a reset
 
@@ -34,7 +41,7 @@ fn renewed(
     ensures second { icfg1.new ≡ new_bank (made_refused hz icfg.old icfg1.old) icfg1.old }
 {
     let made = board::made(hz, QUEUE_LEN, SCRIPT_LEN, icfg, icfg1);
-    done(NEW, if_made(b, made))
+    done(Tells::Number, if_made(b, made))
 }
 
 // The old one stays where the rate is refused.
@@ -57,83 +64,60 @@ fn reset(b: Board, icfg: &mut [u32; BANK_WORDS], icfg1: &mut [u32; BANK_WORDS]) 
     ensures first { icfg.new ≡ reset_first b icfg.old icfg1.old }
     ensures second { icfg1.new ≡ reset_second b icfg.old icfg1.old }
 {
-    done(RESET, board::chip_reset(b, icfg, icfg1))
+    done(Tells::Done, board::chip_reset(b, icfg, icfg1))
 }
 
 // ---- any line
 
-#[tactic(auto, unfolding(crate::specs::Boards::boarded_of, crate::specs::Boards::queue_after, crate::specs::Boards::script_after, crate::specs::Boards::lights_after, crate::specs::Boards::first_after, crate::specs::Boards::second_after))]
-pub fn on_board(
-    b: Board,
-    ask: Ask,
-    queue: &mut [u8; QUEUE_LEN],
-    script: &mut [u64; SCRIPT_WORDS],
-    icfg: &mut [u32; BANK_WORDS],
-    icfg1: &mut [u32; BANK_WORDS],
-    lights: &mut [u64; 41],
-) -> Boarded
-    ensures value { result ≡ boarded_of b ask queue.old script.old icfg.old icfg1.old }
-    ensures waiting { queue.new ≡ queue_after b ask queue.old script.old }
-    ensures entries { script.new ≡ script_after b ask script.old }
-    ensures first { icfg.new ≡ first_after b ask icfg.old icfg1.old }
-    ensures second { icfg1.new ≡ second_after b ask icfg.old icfg1.old }
-    ensures times { lights.new ≡ lights_after b ask lights.old }
+// One match for all: each function that answers a board costs a copy of it.
+#[tactic(auto, unfolding(crate::specs::Boards::boarded_of, crate::specs::Boards::memory_after))]
+pub fn on_board(b: Board, ask: Ask, memory: &mut Memory) -> Boarded
+    ensures value { result ≡ boarded_of b ask memory.old }
+    ensures memory { memory.new ≡ memory_after b ask memory.old }
 {
-    let k = ask.call;
-    match k {
-        STEP => stepped(b, ask.n, queue, script),
-        PUSH => pushed(b, ask, script),
-        APPLY => applied(b, ask, queue),
-        LED => lit(b, lights),
-        _ => by_banks(b, ask, icfg, icfg1),
+    match ask {
+        Ask::Step { cycles } => stepped(b, cycles, &mut memory.queue, &memory.script),
+        Ask::Push { time, action } => pushed(b, time, action, &mut memory.script),
+        Ask::Apply { action } => applied(b, action, &mut memory.queue),
+        Ask::Led => lit(b, &mut memory.lights),
+        Ask::Read { addr } => read(b, addr, &memory.icfg, &memory.icfg1),
+        Ask::Write { addr, value } => write(b, addr, value, &mut memory.icfg, &mut memory.icfg1),
+        Ask::New { hz } => renewed(b, hz, &mut memory.icfg, &mut memory.icfg1),
+        Ask::Reset => reset(b, &mut memory.icfg, &mut memory.icfg1),
+        Ask::Tick => ticked(b),
+        Ask::Idle => done(Tells::Clock, board::idle(b)),
+        Ask::Shift { byte } => done(Tells::Done, board::sr_shift_byte(b, byte)),
+        Ask::Usb { at, period } => done(Tells::Number, board::set_usb(b, at, period)),
+        Ask::Wdt { at } => done(Tells::Number, board::set_wdt(b, at)),
+        Ask::Spi1 { bytes, baud, irq } => done(Tells::Spi1, board::spi1_start(b, bytes, baud, irq)),
+        Ask::Spi2 { bytes, baud, irq } => done(Tells::Done, board::spi2_start(b, bytes, baud, irq)),
+        Ask::Spi1Off => done(Tells::Done, board::spi1_irq_off(b)),
+        Ask::Set(setting) => done(Tells::Done, set(b, setting)),
+        Ask::State => looked(b, state(b)),
+        Ask::Room => looked(b, counted(board::tick_room(b))),
+        Ask::Ms => looked(b, counted(board::ms(b))),
+        Ask::CyclesOf { ms } => looked(b, counted(board::cycle_of_ms(b, ms))),
+        Ask::NextTick => looked(b, flagged(board::next_tick_due(b))),
+        Ask::Pending => looked(b, flagged(board::any_pending(b))),
+        Ask::Irq { core } => looked(
+            b,
+            chosen(board::pending_irq_for(b, core, &memory.icfg, &memory.icfg1)),
+        ),
+        Ask::Enabled { core, irq } => looked(
+            b,
+            flagged(board::irq_enabled(b, core, irq, &memory.icfg, &memory.icfg1)),
+        ),
+        Ask::Name(id) => looked(b, named(id)),
+        Ask::Port(_) => looked(b, Answer::NoCall),
+        Ask::Unknown => looked(b, Answer::NoCall),
+        Ask::TooLong => looked(b, Answer::LongLine),
+        Ask::Nothing => looked(b, Answer::NoLine),
     }
 }
 
-// One match for all that may touch the banks: each function that answers a board costs a copy of it.
-#[tactic(auto, unfolding(crate::specs::Boards::banked_of, crate::specs::Boards::first_after, crate::specs::Boards::second_after))]
-fn by_banks(
-    b: Board,
-    ask: Ask,
-    icfg: &mut [u32; BANK_WORDS],
-    icfg1: &mut [u32; BANK_WORDS],
-) -> Boarded
-    ensures value { result ≡ banked_of b ask icfg.old icfg1.old }
-    ensures first { icfg.new ≡ first_after b ask icfg.old icfg1.old }
-    ensures second { icfg1.new ≡ second_after b ask icfg.old icfg1.old }
+// The board as it is.
+fn looked(board: Board, answer: Answer) -> Boarded
+    ensures { result ≡ looked_of board answer }
 {
-    let k = ask.call;
-    match k {
-        WRITE => write(b, ask.a, ask.v, icfg, icfg1),
-        NEW => renewed(b, ask.n, icfg, icfg1),
-        RESET => reset(b, icfg, icfg1),
-        READ => read(b, ask.a, icfg, icfg1),
-        TICK => ticked(b),
-        _ => other(b, ask, icfg, icfg1),
-    }
-}
-
-// Neither registers nor time: the banks stay as they are.
-#[tactic(auto, unfolding(crate::specs::Boards::other_of))]
-fn other<'a>(
-    b: Board,
-    ask: Ask,
-    icfg: &'a [u32; BANK_WORDS],
-    icfg1: &'a [u32; BANK_WORDS],
-) -> Boarded
-    ensures { result ≡ other_of b ask icfg.now icfg1.now }
-{
-    if is_deed(ask.call) {
-        return deed(b, ask);
-    }
-    Boarded {
-        board: b,
-        answer: looked(b, ask, icfg, icfg1),
-    }
-}
-
-#[tactic(auto, unfolding(crate::specs::Boards::is_deed))]
-fn is_deed(call: usize) -> bool
-    ensures { result ≡ is_deed call }
-{
-    ((IDLE <= call) & (call <= SPI2)) | ((CYCLE_TICKS <= call) & (call <= SPI2_PENDING))
+    Boarded { board, answer }
 }

@@ -6,13 +6,12 @@ ghost use Rattle.std.specs.Prelude.{◌≡◌};
 ghost use Rattle.board_runner.specs.Calls.{led_call};
 ghost use Rattle.board.specs.Calls.{write_first, write_second};
 ghost use Rattle.board.specs.Steps.{apply_queue};
-ghost use Rattle.calls_answers.specs.Outcomes.{action_of};
 ghost use Rattle.calls_lent.specs.Lent.{ran_words, came_to, stepped_in, pushed_in, stored_in, applied_in, numbered, lit_as, reading_of, written_of};
 
 use board_guard::BANK_WORDS;
-use calls_answers::{Boarded, Rest, action, read_answer, step_answer};
-use line_answer::{LIGHTS, flag, number, pair};
-use line_ask::Ask;
+use calls_answers::{Boarded, read_answer, step_answer};
+use line_answer::Answer;
+use records::Action;
 use script::SCRIPT_WORDS;
 use state::Board;
 use step::{OUT_BYTES, Stepped};
@@ -37,46 +36,48 @@ pub fn stepped(
 fn came_to(s: Stepped) -> Boarded
     ensures { result ≡ came_to s }
 {
-    let after = s.board;
+    let board = s.board;
     let half = s.audio_half;
     let byte = s.uart_rx;
-    let rest = Rest {
-        usb: base::when(s.usb_frame, 1) as u64,
-        wdt: base::when(s.wdt, 1) as u64,
-        applied: s.applied as u64,
-    };
     Boarded {
-        board: after,
-        answer: step_answer(s.refused, after.chip.clock.cycles, half, byte, rest),
+        board,
+        answer: step_answer(
+            s.refused,
+            board.chip.clock.cycles,
+            half,
+            byte,
+            s.usb_frame,
+            s.wdt,
+            s.applied,
+        ),
     }
 }
 
-pub fn pushed(b: Board, ask: Ask, script: &mut [u64; SCRIPT_WORDS]) -> Boarded
-    ensures value { result ≡ pushed_in b ask script.old }
-    ensures memory { script.new ≡ stored_in b ask script.old }
+pub fn pushed(b: Board, time: u64, action: Action, script: &mut [u64; SCRIPT_WORDS]) -> Boarded
+    ensures value { result ≡ pushed_in b time script.old }
+    ensures memory { script.new ≡ stored_in b time action script.old }
 {
-    let p = board_words::push(b, script, ask.l, action(ask));
-    let after = p.board;
-    by_number(after, p.refused)
+    let p = board_words::push(b, script, time, action);
+    let board = p.board;
+    numbered(board, p.refused)
 }
 
 // An action at once.
-pub fn applied(b: Board, ask: Ask, queue: &mut [u8; QUEUE_LEN]) -> Boarded
-    ensures value { result ≡ applied_in b ask queue.old }
-    ensures memory { queue.new ≡ apply_queue b (action_of ask) queue.old }
+pub fn applied(b: Board, action: Action, queue: &mut [u8; QUEUE_LEN]) -> Boarded
+    ensures value { result ≡ applied_in b action queue.old }
+    ensures memory { queue.new ≡ apply_queue b action queue.old }
 {
-    let d = board::apply(b, action(ask), queue);
-    let after = d.board;
-    by_number(after, d.refused)
+    let d = board::apply(b, action, queue);
+    let board = d.board;
+    numbered(board, d.refused)
 }
 
-#[tactic(auto, unfolding(crate::specs::Lent::numbered))]
-fn by_number(after: Board, refused: u32) -> Boarded
-    ensures { result ≡ numbered after refused }
+fn numbered(board: Board, refused: u32) -> Boarded
+    ensures { result ≡ numbered board refused }
 {
     Boarded {
-        board: after,
-        answer: number(refused as u64),
+        board,
+        answer: Answer::Number(refused as u64),
     }
 }
 
@@ -86,12 +87,12 @@ pub fn lit(b: Board, lights: &mut [u64; 41]) -> Boarded
     ensures memory { lights.new ≡ (led_call b).lit }
 {
     let taken = board::led_take(b);
-    let after = taken.board;
+    let board = taken.board;
     let times = taken.lit;
     *lights = times;
     Boarded {
-        board: after,
-        answer: pair(taken.refused, LIGHTS, taken.span, 0),
+        board,
+        answer: Answer::Lights { span: taken.span }.unless_refused(taken.refused),
     }
 }
 
@@ -107,11 +108,11 @@ pub fn read<'a>(
     ensures { result ≡ reading_of b addr icfg.now icfg1.now }
 {
     let reading = board::read(b, addr, icfg, icfg1);
-    let after = reading.board;
+    let board = reading.board;
     let value = reading.value;
     Boarded {
-        board: after,
-        answer: read_answer(reading.refused, value, after.chip.clock),
+        board,
+        answer: read_answer(reading.refused, value, board.chip.clock),
     }
 }
 
@@ -128,9 +129,9 @@ pub fn write(
     ensures second { icfg1.new ≡ write_second b addr value icfg.old icfg1.old }
 {
     let written = board::write(b, addr, value, icfg, icfg1);
-    let after = written.board;
+    let board = written.board;
     Boarded {
-        board: after,
-        answer: flag(written.refused, written.handled),
+        board,
+        answer: Answer::Flag(written.handled).unless_refused(written.refused),
     }
 }

@@ -4,32 +4,27 @@
 
 ghost use Rattle.std.specs.Prelude.{◌≡◌};
 ghost use Rattle.calls_port.specs.Ports.{
-  is_of_port,
+  aside_after,
+  carried_aside,
+  carried_in,
+  carried_of,
   done_of,
   event_answer,
   event_of,
   kept_of,
+  looked_of,
+  ported_of,
   register_answer,
+  regs_after,
   same_answer,
   snap_answer,
-  times_prime,
   sum_of,
-  looked_of,
-  carried_of,
-  carried_in,
-  carried_aside,
-  ported_of,
-  regs_after,
-  aside_after,
 };
 
-use line_answer::{Answer, BYTE, HEX, NONE, RESET, SIX, SUM, WDT, flag, number, pair, two};
-use line_ask::{
-    Ask, PORT_EVENT, PORT_KEEP, PORT_MS, PORT_NEW, PORT_READ, PORT_REG, PORT_RESET, PORT_SAME,
-    PORT_SNAP, PORT_WRITE,
-};
-use p33::{Compared, Done, Event, P33, Snap, Value};
-use std::num::wrapping_add_u64;
+use base::Refusal;
+use line_answer::Answer;
+use line_ask::{Ask, PortAsk};
+use p33::{Event, P33, Snap};
 
 #[derive(Clone, Copy)]
 pub struct Ports {
@@ -44,6 +39,7 @@ pub struct Ported {
 }
 
 // The ports after a line, and its answer: the one given, where the line asks nothing of the port.
+#[tactic(auto, unfolding(crate::specs::Ports::ported_of, crate::specs::Ports::regs_after, crate::specs::Ports::aside_after))]
 pub fn on_port(
     p: Ports,
     ask: Ask,
@@ -55,49 +51,50 @@ pub fn on_port(
     ensures memory { regs.new ≡ regs_after p ask regs.old }
     ensures kept { aside.new ≡ aside_after ask regs.old aside.old }
 {
-    if is_of_port(ask.call) {
-        return carried(p, ask, regs, aside);
+    match ask {
+        Ask::Port(call) => carried(p, call, regs, aside),
+        _ => looked(p, a),
     }
-    Ported {
-        ports: p,
-        answer: a,
-    }
-}
-
-fn is_of_port(call: usize) -> bool
-    ensures { result ≡ is_of_port call }
-{
-    (PORT_WRITE <= call) & (call <= PORT_RESET)
 }
 
 #[tactic(auto, unfolding(crate::specs::Ports::carried_of, crate::specs::Ports::carried_in, crate::specs::Ports::carried_aside))]
-fn carried(p: Ports, ask: Ask, regs: &mut [u8; 2048], aside: &mut [u8; 2048]) -> Ported
-    ensures value { result ≡ carried_of p ask regs.old aside.old }
-    ensures memory { regs.new ≡ carried_in p ask regs.old }
-    ensures kept { aside.new ≡ carried_aside ask regs.old aside.old }
+fn carried(p: Ports, call: PortAsk, regs: &mut [u8; 2048], aside: &mut [u8; 2048]) -> Ported
+    ensures value { result ≡ carried_of p call regs.old aside.old }
+    ensures memory { regs.new ≡ carried_in p call regs.old }
+    ensures kept { aside.new ≡ carried_aside call regs.old aside.old }
 {
-    let k = ask.call;
-    match k {
-        PORT_WRITE => done(p, p33::write_through(p.port, regs, ask.a, ask.v)),
-        PORT_NEW => done(p, P33::new(regs)),
-        PORT_RESET => done(p, p33::chip_reset_through(p.port, regs, ask.b)),
-        PORT_EVENT => event(p),
-        PORT_KEEP => keep(p, regs, aside),
-        _ => Ported {
-            ports: p,
-            answer: looked(p, ask, regs, aside),
-        },
+    let port = p.port;
+    let kept = p.kept;
+    match call {
+        PortAsk::Write { addr, value } => done(p, p33::write_through(port, regs, addr, value)),
+        PortAsk::New => done(p, P33::new(regs)),
+        PortAsk::Reset { cause } => done(p, p33::chip_reset_through(port, regs, cause)),
+        PortAsk::Event => event(p),
+        PortAsk::Keep => keep(p, regs, aside),
+        PortAsk::Read { addr } => looked(p, Answer::Hex(port.read(addr))),
+        PortAsk::Reg { addr, rtc } => looked(p, reg(P33::reg(regs, addr, rtc))),
+        PortAsk::Ms { con } => looked(p, Answer::Number(P33::wdt_ms(con))),
+        PortAsk::Same => looked(p, same(p33::same(port, regs, kept, aside))),
+        PortAsk::Snap => looked(p, snap(port.snap())),
+        PortAsk::Sum => looked(p, Answer::Sum(sum(regs))),
     }
 }
 
-fn done(mut p: Ports, d: Done) -> Ported
-    ensures { result ≡ done_of p d }
+// ---- calls that change the port, or the one aside
+
+fn done(mut p: Ports, outcome: Result<P33, Refusal>) -> Ported
+    ensures { result ≡ done_of p outcome }
 {
-    let port = d.port;
-    p.port = port;
+    let refused = match outcome {
+        Ok(port) => {
+            p.port = port;
+            0
+        }
+        Err(refusal) => u32::from(refusal),
+    };
     Ported {
         ports: p,
-        answer: number(d.refused as u64),
+        answer: Answer::Number(u64::from(refused)),
     }
 }
 
@@ -111,7 +108,7 @@ fn keep(mut p: Ports, regs: &[u8; 2048], aside: &mut [u8; 2048]) -> Ported
     p.kept = port;
     Ported {
         ports: p,
-        answer: number(0),
+        answer: Answer::Number(0),
     }
 }
 
@@ -130,55 +127,52 @@ fn event(mut p: Ports) -> Ported
 }
 
 #[tactic(auto, unfolding(crate::specs::Ports::event_answer))]
-fn event_answer(event: Event) -> Answer
+fn event_answer(event: Option<Event>) -> Answer
     ensures { result ≡ event_answer event }
 {
     match event {
-        Event::None => two(NONE, 0, 0),
-        Event::Wdt { fed } => two(WDT, base::when(fed, 1) as u64, 0),
-        Event::Reset => two(RESET, 0, 0),
+        None => Answer::NoValue,
+        Some(Event::Wdt { fed }) => Answer::Watchdog { fed },
+        Some(Event::Reset) => Answer::Reset,
     }
 }
 
 // ---- what leaves the port as it is
 
-#[tactic(auto, unfolding(crate::specs::Ports::looked_of))]
-fn looked(p: Ports, ask: Ask, regs: &[u8; 2048], aside: &[u8; 2048]) -> Answer
-    ensures { result ≡ looked_of p ask regs.now aside.now }
+fn looked(ports: Ports, answer: Answer) -> Ported
+    ensures { result ≡ looked_of ports answer }
 {
-    let port = p.port;
-    let kept = p.kept;
-    let k = ask.call;
-    match k {
-        PORT_READ => two(HEX, port.read(ask.a) as u64, 0),
-        PORT_REG => reg(P33::reg(regs, (ask.n % 0x1_0000) as u16, ask.m == 1)),
-        PORT_MS => number(P33::wdt_ms(ask.b)),
-        PORT_SAME => same(p33::same(port, regs, kept, aside)),
-        PORT_SNAP => snap(port.snap()),
-        _ => two(SUM, sum(regs), 0),
+    Ported { ports, answer }
+}
+
+fn reg(found: Result<u8, Refusal>) -> Answer
+    ensures { result ≡ register_answer found }
+{
+    match found {
+        Ok(value) => Answer::Byte(value),
+        Err(refusal) => Answer::Refused(refusal.into()),
     }
 }
 
-fn reg(found: Value) -> Answer
-    ensures { result ≡ register_answer found }
+fn same(compared: Result<bool, Refusal>) -> Answer
+    ensures { result ≡ same_answer compared }
 {
-    pair(found.refused as u32, BYTE, found.value as u64, 0)
-}
-
-fn same(c: Compared) -> Answer
-    ensures { result ≡ same_answer c }
-{
-    flag(c.refused as u32, c.same)
+    match compared {
+        Ok(same) => Answer::Flag(same),
+        Err(refusal) => Answer::Refused(refusal.into()),
+    }
 }
 
 fn snap(s: Snap) -> Answer
     ensures { result ≡ snap_answer s }
 {
-    Answer {
-        form: SIX,
-        numbers: [
-            s.0 as u64, s.1 as u64, s.2 as u64, s.3 as u64, s.4 as u64, s.5, 0, 0, 0, 0,
-        ],
+    Answer::Snap {
+        con: s.0,
+        dat: s.1,
+        step: s.2,
+        cmd: s.3,
+        addr: s.4,
+        changed: s.5,
     }
 }
 
@@ -187,25 +181,8 @@ fn sum(regs: &[u8; 2048]) -> u64
     ensures { result ≡ sum_of 2048 regs.now }
 {
     let mut h: u64 = 0xcbf2_9ce4_8422_2325;
-    let mut i: usize = 0;
-    while i < 2048 {
-        h = times_prime(h ^ wide(regs[i]));
-        i = i + 1;
+    for b in regs {
+        h = (h ^ u64::from(*b)).wrapping_mul(0x100_0000_01b3);
     }
     h
-}
-
-fn wide(b: u8) -> u64
-    ensures { result ≡ b }
-{
-    b as u64
-}
-
-// Times 2^40 + 0x1b3, a bit of it at a time: 0x1b3 is 3 * (1 + 16 + 128).
-fn times_prime(h: u64) -> u64
-    ensures { result ≡ times_prime h }
-{
-    let three = wrapping_add_u64(h, h << 1);
-    let low = wrapping_add_u64(three, wrapping_add_u64(three << 4, three << 7));
-    wrapping_add_u64(low, h << 40)
 }

@@ -1,87 +1,54 @@
-// Lines that leave the board as it is.
+// What a call that leaves the board as it is answers.
 ghost use Rattle.std.specs.Prelude.{◌≡◌};
-ghost use Rattle.calls_unlent.specs.Looks.{looked_of, state_of, counted_of, flagged_of, chosen_of};
+ghost use Rattle.calls_unlent.specs.Looks.{choice_told, chosen_of, counted_of, flagged_of, state_of};
 
 use board::{Chosen, Flag, Number};
-use board_guard::BANK_WORDS;
-use calls_answers::plain;
 use irq::Choice;
-use line_answer::{Answer, NONE, NUMBER, NUMBERS, PAIR, flag, pair};
-use line_ask::{Ask, CYCLES_OF, ENABLED, IRQ, MS, NEXT_TICK, PENDING, ROOM, STATE};
+use line_answer::Answer;
 use state::Board;
 
-#[tactic(auto, unfolding(crate::specs::Looks::looked_of))]
-pub fn looked<'a>(
-    b: Board,
-    ask: Ask,
-    icfg: &'a [u32; BANK_WORDS],
-    icfg1: &'a [u32; BANK_WORDS],
-) -> Answer
-    ensures { result ≡ looked_of b ask icfg.now icfg1.now }
-{
-    let k = ask.call;
-    match k {
-        STATE => state(b),
-        ROOM => counted(board::tick_room(b)),
-        MS => counted(board::ms(b)),
-        CYCLES_OF => counted(board::cycle_of_ms(b, ask.n)),
-        NEXT_TICK => flagged(board::next_tick_due(b)),
-        PENDING => flagged(board::any_pending(b)),
-        IRQ => chosen(board::pending_irq_for(b, ask.a, icfg, icfg1)),
-        ENABLED => flagged(board::irq_enabled(b, ask.a, ask.c, icfg, icfg1)),
-        _ => plain(k, ask.n),
-    }
-}
-
-#[tactic(auto, unfolding(crate::specs::Looks::state_of))]
-fn state(b: Board) -> Answer
+pub fn state(b: Board) -> Answer
     ensures { result ≡ state_of b }
 {
     let c = b.chip;
-    Answer {
-        form: NUMBERS,
-        numbers: [
-            c.clock.cycles,
-            c.clock.next_due,
-            c.clock.skipped,
-            c.audio.halves,
-            wide(c.uart.count),
-            c.uart.dropped,
-            wide(c.script.count),
-            c.spi.spi1_wire,
-            c.spi.spi1_done_at,
-            c.keys.vel,
-        ],
+    Answer::State {
+        clock: c.clock.cycles,
+        due: c.clock.next_due,
+        skipped: c.clock.skipped,
+        halves: c.audio.halves,
+        queued: c.uart.count,
+        dropped: c.uart.dropped,
+        script: c.script.count,
+        wire: c.spi.spi1_wire,
+        done: c.spi.spi1_done_at,
+        vel: c.keys.vel,
     }
 }
 
-fn wide(n: u32) -> u64
-    ensures { result ≡ n }
-{
-    n as u64
-}
-
-// ---- as answers
-
-fn counted(n: Number) -> Answer
+pub fn counted(n: Number) -> Answer
     ensures { result ≡ counted_of n }
 {
-    pair(n.refused, NUMBER, n.value, 0)
+    Answer::Number(n.value).unless_refused(n.refused)
 }
 
-fn flagged(f: Flag) -> Answer
+pub fn flagged(f: Flag) -> Answer
     ensures { result ≡ flagged_of f }
 {
-    flag(f.refused, f.is)
+    Answer::Flag(f.is).unless_refused(f.refused)
 }
 
-#[tactic(auto, unfolding(crate::specs::Looks::chosen_of))]
-fn chosen(c: Chosen) -> Answer
-    ensures { result ≡ chosen_of c.refused c.choice }
+pub fn chosen(c: Chosen) -> Answer
+    ensures { result ≡ chosen_of c }
 {
-    let choice = c.choice;
+    choice(c.choice).unless_refused(c.refused)
+}
+
+#[tactic(auto, unfolding(crate::specs::Looks::choice_told))]
+fn choice(choice: Option<Choice>) -> Answer
+    ensures { result ≡ choice_told choice }
+{
     match choice {
-        Choice::Of { irq, prio } => pair(c.refused, PAIR, irq as u64, prio as u64),
-        Choice::None => pair(c.refused, NONE, 0, 0),
+        Some(Choice { irq, prio }) => Answer::Pair(irq as u64, prio as u64),
+        None => Answer::NoValue,
     }
 }

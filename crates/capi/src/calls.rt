@@ -12,7 +12,7 @@ ghost use Rattle.capi_answers.specs.Edge.{of_reading, of_stepped, of_chosen, of_
 ghost use Rattle.capi.specs.Flags.{is_yes};
 
 use board::{Done, Flag, Lit, Number, Ticked, Written};
-use capi_answers::{Advanced, Chosen, Reading, Said, advance, of_chosen, of_id, of_reading};
+use capi_answers::{Advanced, Chosen, Reading, Said, advance, of_chosen, of_reading};
 use script::action_of;
 use state::Board;
 
@@ -280,12 +280,12 @@ pub fn fm1_set_wdt(b: Board, at: u64) -> Done
 pub fn fm1_key_id(name: &[u8]) -> Said
     ensures { result ≡ of_id (key_id_of name.now) }
 {
-    of_id(names::key_id(name))
+    Said::from(names::key_id(name))
 }
 
 // An encoder's id, or `is` 0.
 pub fn fm1_enc_id(name: &[u8]) -> Said
     ensures { result ≡ of_id (enc_id_of name.now) }
 {
-    of_id(names::enc_id(name))
+    Said::from(names::enc_id(name))
 }

@@ -20,7 +20,7 @@ ghost use Rattle.capi_answers.specs.Ports.{port_in, of_port_new, of_port_done, o
 ghost use Rattle.capi.specs.Flags.{is_yes};
 
 use base::when;
-use capi_answers::ports::{of_compared, of_port_done, of_port_new, of_register, of_taken, port_in};
+use capi_answers::ports::{of_port_done, of_port_new};
 use capi_answers::{Port, PortAnswered, Said};
 use p33::P33;
 
@@ -36,58 +36,50 @@ pub fn fm1_port_new(regs: &mut [u8]) -> PortAnswered
 pub fn fm1_port_read(p: Port, addr: u32) -> u32
     ensures { result ≡ read_of (port_in p) addr }
 {
-    let q = port_in(p);
-    q.read(addr)
+    P33::from(p).read(addr)
 }
 
 // A write to CON or DAT. SIZE, COUNT.
 pub fn fm1_port_write(p: Port, regs: &mut [u8], addr: u32, value: u32) -> PortAnswered
     ensures { (result ≡ of_port_done p (write_of (port_in p) regs.old addr value)) × (regs.new ≡ write_in (port_in p) regs.old addr value) }
 {
-    let q = port_in(p);
-    of_port_done(p, q.write(regs, addr, value))
+    of_port_done(p, P33::from(p).write(regs, addr, value))
 }
 
 // A chip reset and its cause. SIZE, COUNT.
 pub fn fm1_port_chip_reset(p: Port, regs: &mut [u8], cause: u8) -> PortAnswered
     ensures { (result ≡ of_port_done p (reset_of (port_in p) regs.old)) × (regs.new ≡ reset_in (port_in p) regs.old cause) }
 {
-    let q = port_in(p);
-    of_port_done(p, q.chip_reset(regs, cause))
+    of_port_done(p, P33::from(p).chip_reset(regs, cause))
 }
 
 // The event, as `value`; it is taken.
 pub fn fm1_port_take_event(p: Port) -> PortAnswered
     ensures { result ≡ of_taken (taken_of (port_in p)) }
 {
-    let q = port_in(p);
-    of_taken(q.take_event())
+    PortAnswered::from(P33::from(p).take_event())
 }
 
 // A register of the main domain, or of the RTC's where `rtc` is not 0. SIZE.
 pub fn fm1_port_reg(regs: &[u8], addr: u16, rtc: u8) -> Said
     ensures { result ≡ of_register (reg_of regs.now addr (is_yes rtc)) }
 {
-    of_register(P33::reg(regs, addr, rtc != 0))
+    Said::from(P33::reg(regs, addr, rtc != 0))
 }
 
 // Whether two ports are the same. SIZE.
 pub fn fm1_port_same(a: Port, regs_a: &[u8], b: Port, regs_b: &[u8]) -> Said
     ensures { result ≡ of_compared (same_of (port_in a) regs_a.now (port_in b) regs_b.now) }
 {
-    let p = port_in(a);
-    let q = port_in(b);
-    of_compared(p33::same(p, regs_a, q, regs_b))
+    Said::from(p33::same(P33::from(a), regs_a, P33::from(b), regs_b))
 }
 
 // Whether one port at two times has equal snaps.
 pub fn fm1_port_same_snap(a: Port, b: Port) -> u32
     ensures { result ≡ when_of (same_snap (snap_of (port_in a)) (snap_of (port_in b))) 1 }
 {
-    let p = port_in(a);
-    let q = port_in(b);
-    let x = p.snap();
-    let y = q.snap();
+    let x = P33::from(a).snap();
+    let y = P33::from(b).snap();
     when(p33::same_snap(x, y), 1)
 }
 

@@ -21,11 +21,8 @@ ghost use Rattle.capi_answers.specs.Edge.{
 };
 
 use audio::Half;
-use base::when;
 use board::Done;
 use irq::Choice;
-use names::Id;
-use regs::Value;
 use state::Board;
 use step::Stepped;
 use uart::Byte;
@@ -113,26 +110,23 @@ pub struct PortAnswered {
 pub fn told(value: u64, refused: u32, is: u32) -> Said
     ensures { result ≡ said_of value refused is }
 {
-    Said {
-        value: value,
-        refused: refused,
-        is: is,
-    }
+    Said { value, refused, is }
 }
 
-pub fn read_of(b: Board, refused: u32, v: Value) -> Reading
+#[tactic(auto, unfolding(crate::specs::Edge::read_of, regs::specs::Told::told_value))]
+pub fn read_of(b: Board, refused: u32, v: Option<u32>) -> Reading
     ensures { result ≡ read_of b refused v }
 {
     match v {
-        Value::Is(n) => Reading {
+        Some(value) => Reading {
             board: b,
-            refused: refused,
+            refused,
             some: 1,
-            value: n,
+            value,
         },
-        Value::None => Reading {
+        None => Reading {
             board: b,
-            refused: refused,
+            refused,
             some: 0,
             value: 0,
         },
@@ -142,21 +136,20 @@ pub fn read_of(b: Board, refused: u32, v: Value) -> Reading
 pub fn of_reading(r: board::Reading) -> Reading
     ensures { result ≡ of_reading r }
 {
-    let b = r.board;
-    let v = r.value;
-    read_of(b, r.refused, v)
+    read_of(r.board, r.refused, r.value)
 }
 
-pub fn of_half(h: Half) -> Moved
+#[tactic(auto, unfolding(crate::specs::Edge::of_half, audio::specs::Told::told_half))]
+pub fn of_half(h: Option<Half>) -> Moved
     ensures { result ≡ of_half h }
 {
     match h {
-        Half::Done { addr, words } => Moved {
+        Some(Half { addr, words }) => Moved {
             some: 1,
-            addr: addr,
+            addr,
             value: words,
         },
-        Half::None => Moved {
+        None => Moved {
             some: 0,
             addr: 0,
             value: 0,
@@ -164,16 +157,17 @@ pub fn of_half(h: Half) -> Moved
     }
 }
 
-pub fn of_byte(x: Byte) -> Moved
+#[tactic(auto, unfolding(crate::specs::Edge::of_byte, uart::specs::Told::told_byte))]
+pub fn of_byte(x: Option<Byte>) -> Moved
     ensures { result ≡ of_byte x }
 {
     match x {
-        Byte::Got { addr, b } => Moved {
+        Some(Byte { addr, b }) => Moved {
             some: 1,
-            addr: addr,
+            addr,
             value: b as u32,
         },
-        Byte::None => Moved {
+        None => Moved {
             some: 0,
             addr: 0,
             value: 0,
@@ -184,19 +178,16 @@ pub fn of_byte(x: Byte) -> Moved
 pub fn of_stepped(s: Stepped) -> Advanced
     ensures { result ≡ of_stepped s }
 {
-    let b = s.board;
-    let half = s.audio_half;
-    let byte = s.uart_rx;
     Advanced {
-        board: b,
+        board: s.board,
         due: Due {
             written: s.written as u64,
             applied: s.applied,
             refused: s.refused,
-            audio: of_half(half),
-            uart: of_byte(byte),
-            usb_frame: when(s.usb_frame, 1),
-            wdt: when(s.wdt, 1),
+            audio: of_half(s.audio_half),
+            uart: of_byte(s.uart_rx),
+            usb_frame: u32::from(s.usb_frame),
+            wdt: u32::from(s.wdt),
         },
     }
 }
@@ -210,18 +201,19 @@ pub fn advance(b: Board, cycles: u64, queue: &mut [u8], script: &[u64], out: &mu
     of_stepped(board_words::advance(b, cycles, queue, script, out))
 }
 
-pub fn of_choice(refused: u32, c: Choice) -> Chosen
+#[tactic(auto, unfolding(crate::specs::Edge::of_choice, irq::specs::Told::told_choice))]
+pub fn of_choice(refused: u32, c: Option<Choice>) -> Chosen
     ensures { result ≡ of_choice refused c }
 {
     match c {
-        Choice::Of { irq, prio } => Chosen {
-            refused: refused,
+        Some(Choice { irq, prio }) => Chosen {
+            refused,
             some: 1,
             source: irq as u32,
             priority: prio as u32,
         },
-        Choice::None => Chosen {
-            refused: refused,
+        None => Chosen {
+            refused,
             some: 0,
             source: 0,
             priority: 0,
@@ -232,15 +224,17 @@ pub fn of_choice(refused: u32, c: Choice) -> Chosen
 pub fn of_chosen(c: board::Chosen) -> Chosen
     ensures { result ≡ of_chosen c }
 {
-    let choice = c.choice;
-    of_choice(c.refused, choice)
+    of_choice(c.refused, c.choice)
 }
 
-pub fn of_id(id: Id) -> Said
-    ensures { result ≡ of_id id }
-{
-    match id {
-        Id::Of(n) => told(n as u64, 0, 1),
-        Id::None => told(0, 0, 0),
+impl From<Option<u8>> for Said {
+    ghost from_gives = { λ id said. said ≡ of_id id };
+
+    #[tactic(auto, unfolding(crate::specs::Edge::of_id, names::specs::Told::told_id))]
+    fn from(id: Option<u8>) -> Said {
+        match id {
+            Some(n) => told(n as u64, 0, 1),
+            None => told(0, 0, 0),
+        }
     }
 }

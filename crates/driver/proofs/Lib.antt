@@ -1,3 +1,2 @@
 pub mod New
-pub mod Feeding
 pub mod Streaming

@@ -1,7 +1,7 @@
 // Document 01's driver: records from standard input, carried out on a new 240 MHz board, a line each on standard output. It ends with its input, or with `X` at a record that is broken or cut
 // off. Input streams through one buffer, so that its length does not matter, and lines wait in another. What is printed for the bytes that were read is `driver_records` (`driver_lines` for all of
-// them); here they are read and the lines written. The loop knows its board whole (`BenchOk`), so that records are carried out and nothing tested. The chip is a variable and the panel's arrays stay
-// in theirs, so that no record copies the board.
+// them); here they are read and the lines written. The loop knows its board whole (`BenchOk`), so that records are carried out and nothing tested. The chip is a variable and the panel another,
+// lent, so that no record copies the board.
 #![tactic(auto)]
 
 mod stream;
@@ -13,7 +13,7 @@ use board_guard::BANK_WORDS;
 use driver_records::put_lines;
 use script::{SCRIPT_LEN, SCRIPT_WORDS};
 use step::OUT_BYTES;
-use stream::{fed, passed, unread};
+use stream::Stream;
 use text::{STDOUT, first};
 use uart::QUEUE_LEN;
 
@@ -55,29 +55,17 @@ fn run(
 {
     let b = board::made(RATE, QUEUE_LEN, SCRIPT_LEN, icfg, icfg1).board;
     let mut c = b.chip;
-    let mut acc = b.panel.acc;
-    let mut t0 = b.panel.ramps.t0;
-    let mut dur = b.panel.ramps.dur;
-    let mut from = b.panel.ramps.from;
-    let mut toward = b.panel.ramps.to;
-    let mut values = b.panel.values;
-    let mut s = stream::start();
-    let mut turns = TURNS;
-    while 0 < turns {
-        turns = turns - 1;
-        s = fed(input, s);
+    let mut panel = b.panel;
+    let mut s = Stream::start();
+    for _turn in 0..TURNS {
+        s = s.fed(input);
         let w = put_lines(
-            unread(input, s),
+            s.unread(input),
             s.base,
             s.last,
             out,
             c,
-            &mut acc,
-            &mut t0,
-            &mut dur,
-            &mut from,
-            &mut toward,
-            &mut values,
+            &mut panel,
             queue,
             script,
             icfg,
@@ -87,9 +75,9 @@ fn run(
         let d = w.chip;
         c = d;
         flush(out, w.put);
-        s = passed(s, w.passed);
+        s = s.passed(w.passed);
         if w.ended {
-            turns = 0;
+            break;
         }
     }
 }

@@ -16,36 +16,58 @@ pub struct Stream {
 // No record is longer.
 const LONGEST: usize = 17;
 
-pub fn start() -> Stream
-    ensures { (result.base ≡ 0) × (result.at ≡ 0) × (result.len ≡ 0) × (result.last ≡ false) }
-{
-    Stream {
-        base: 0,
-        at: 0,
-        len: 0,
-        last: false,
+impl Stream {
+    pub fn start() -> Self
+        ensures { (result.base ≡ 0) × (result.at ≡ 0) × (result.len ≡ 0) × (result.last ≡ false) }
+    {
+        Stream {
+            base: 0,
+            at: 0,
+            len: 0,
+            last: false,
+        }
     }
-}
 
-// Where fewer bytes are left than a record may have, they go to the front, and the rest of the buffer is filled.
-pub fn fed(input: &mut [u8], s: Stream) -> Stream
-    requires { (s.at ≤ s.len) × (s.len ≤ length input.old) × (17 ≤ length input.old) }
-    ensures { (result.base ≡ s.base) × Fed input.old s.at s.len s.last input.new result.at result.len result.last }
-{
-    if s.last {
-        return s;
+    // Where fewer bytes are left than a record may have, they go to the front, and the rest of the buffer is filled.
+    pub fn fed(self, input: &mut [u8]) -> Self
+        requires { (self.at ≤ self.len) × (self.len ≤ length input.old) × (17 ≤ length input.old) }
+        ensures { (result.base ≡ self.base) × Fed input.old self.at self.len self.last input.new result.at result.len result.last }
+    {
+        if self.last {
+            return self;
+        }
+        let left = self.len - self.at;
+        if LONGEST <= left {
+            return self;
+        }
+        bring(input, self.at, left);
+        let got = filled(input, left);
+        Stream {
+            base: self.base,
+            at: 0,
+            len: left + got,
+            last: got < input.len() - left,
+        }
     }
-    let left = s.len - s.at;
-    if LONGEST <= left {
-        return s;
+
+    pub fn unread(self, input: &[u8]) -> &[u8]
+        requires { (self.at ≤ self.len) × (self.len ≤ length input.now) }
+        ensures { (result.now ≡ unread_of input.now self.at self.len) × (length result.now ≡ self.len - self.at) }
+    {
+        &input[self.at..self.len]
     }
-    bring(input, s.at, left);
-    let got = filled(input, left);
-    Stream {
-        base: s.base,
-        at: 0,
-        len: left + got,
-        last: got < input.len() - left,
+
+    // So many bytes further on.
+    pub fn passed(self, n: usize) -> Self
+        requires { (self.at + n < 2 ^ 64) × (self.base + n < 2 ^ 64) }
+        ensures { (result.base ≡ self.base + n) × (result.at ≡ self.at + n) × (result.len ≡ self.len) × (result.last ≡ self.last) }
+    {
+        Stream {
+            base: self.base + n,
+            at: self.at + n,
+            len: self.len,
+            last: self.last,
+        }
     }
 }
 
@@ -54,11 +76,7 @@ fn bring(input: &mut [u8], from: usize, n: usize)
     requires { from + n ≤ length input.old }
     ensures { take n input.new ≡ take n (drop from input.old) }
 {
-    let mut i: usize = 0;
-    while i < n {
-        input[i] = input[from + i];
-        i = i + 1;
-    }
+    input.copy_within(from..from + n, 0);
 }
 
 // Reads behind the first bytes, which stay; answers how many came.
@@ -67,26 +85,4 @@ fn filled(input: &mut [u8], from: usize) -> usize
     ensures { (from + result ≤ length input.old) × (take from input.new ≡ take from input.old) }
 {
     io::read_full(STDIN, &mut input[from..])
-}
-
-pub fn unread(input: &[u8], s: Stream) -> &[u8]
-    requires { (s.at ≤ s.len) × (s.len ≤ length input.now) }
-    ensures { (result.now ≡ unread_of input.now s.at s.len) × (length result.now ≡ s.len - s.at) }
-{
-    let at = s.at;
-    let len = s.len;
-    &input[at..len]
-}
-
-// So many bytes further on.
-pub fn passed(s: Stream, n: usize) -> Stream
-    requires { (s.at + n < 2 ^ 64) × (s.base + n < 2 ^ 64) }
-    ensures { (result.base ≡ s.base + n) × (result.at ≡ s.at + n) × (result.len ≡ s.len) × (result.last ≡ s.last) }
-{
-    Stream {
-        base: s.base + n,
-        at: s.at + n,
-        len: s.len,
-        last: s.last,
-    }
 }

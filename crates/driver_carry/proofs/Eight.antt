@@ -13,12 +13,13 @@ use Rattle.board.specs.Calls.{read_refused, read_call}
 use Rattle.board.specs.declared.Reading.{Reading}
 use Rattle.board_guard.specs.Refusals.{size_of}
 use Rattle.records.proofs.Eight.{record-number}
-use Rattle.records.specs.Decoded.{record_of}
 use Rattle.records.specs.Layout.{breaks_layout}
-use Rattle.records.specs.Told.{told_record}
+use Rattle.records.specs.Told.{told_body, told_record}
 use Rattle.records.specs.declared.Order.TheVariants.{Read, Write, Step}
-use Rattle.records.specs.declared.RecordAt.{RecordAt}
-use Rattle.records.specs.declared.RecordAt.TheVariants.{Timed, Order as Ordered, Broken, End}
+use Rattle.std.specs.Prelude.{Some, None, Ok, Err}
+use Rattle.records.specs.Decoded.{RecordAt, record_of}
+use Rattle.records.specs.declared.Body.{Body}
+use Rattle.records.specs.declared.Body.TheVariants.{Timed, Order as Ordered}
 use Rattle.regs.specs.Reads.{polls_at, polled_of}
 use Rattle.script.specs.Script.{entries, full_of}
 use Rattle.script.specs.Words.{words_at, places_in}
@@ -30,7 +31,7 @@ use Rattle.step.specs.Stages.{now_of}
 use Rattle.step.specs.Step.{out_bytes, is_state, step_refusal, push_refusal, placed_of}
 use Rattle.step.specs.declared.Spot.{Spot}
 use Rattle.uart.specs.Uart.{queue_bytes}
-use Rattle.driver_carry.specs.Carry.{Bench, answer_by, answer_of}
+use Rattle.driver_carry.specs.Carry.{Bench, answer_by, said, answer_of}
 use Rattle.driver_carry.specs.Told.{told_answer}
 use Rattle.driver_carry.specs.declared.Answer.{Answer}
 
@@ -113,16 +114,20 @@ by_number done n e h = go (eqb n 0)
     go true = rw e
     go false = not_eight n h
 
-same_number : (h : Bench) (r : RecordAt) → eqb (told_answer (answer_of h r)).number RECORD ≡ eqb (told_record r).number RECORD
-unfolding told_answer answer_of told_record
-same_number h (Timed time action next) = not_eight _ (push-small h.board _ time)
-same_number h (Ordered (Read addr) next) = by_number _ _ refl (read_small h.board addr h.first h.second)
-same_number h (Ordered (Write addr v) next) = refl
-same_number h (Ordered (Step cycles) next) =
+same_body : (h : Bench) (b : Body) (next : ℕ) → eqb (told_answer (said h b)).number RECORD ≡ eqb (told_body b next).number RECORD
+unfolding told_answer said
+same_body h (Timed time action) next = not_eight _ (push-small h.board _ time)
+same_body h (Ordered (Read addr)) next = by_number _ _ refl (read_small h.board addr h.first h.second)
+same_body h (Ordered (Write addr v)) next = refl
+same_body h (Ordered (Step cycles)) next =
     by_number _ _ refl
     (subst Small (sym (step-number h.board cycles (words_at h.script) (places_in h.script) h.queue h.acts)) (step_small h.board cycles _ _ _))
-same_number h (Broken at) = refl
-same_number h End = refl
+
+same_number : (h : Bench) (r : RecordAt) → eqb (told_answer (answer_of h r)).number RECORD ≡ eqb (told_record r).number RECORD
+unfolding told_answer told_record
+same_number h (Ok (Some r)) = same_body h r.body r.next
+same_number h (Ok None) = refl
+same_number h (Err b) = refl
 
 pub answer-number : (h : Bench) (s : List ℕ) (at : ℕ) → eqb (told_answer (answer_of h (record_of s at))).number RECORD ≡ (not (eqb (length s) 0) && breaks_layout s)
 answer-number h s at = same_number h (record_of s at) ∙ record-number s at

@@ -14,7 +14,7 @@ use Rattle.board.specs.declared.Reading.{Reading}
 use Rattle.board.specs.declared.Written.{Written}
 use Rattle.records.specs.declared.Action.{Action}
 use Rattle.records.specs.declared.Order.TheVariants.{Read, Write, Step}
-use Rattle.records.specs.declared.RecordAt.TheVariants.{Timed, Order as Ordered}
+use Rattle.records.specs.declared.Body.TheVariants.{Timed, Order as Ordered}
 use Rattle.regs.specs.Reads.{polls_at}
 use Rattle.regs.specs.Writes.{first_written, second_written}
 use Rattle.script.specs.Script.{full_of, entries}
@@ -27,7 +27,7 @@ use Rattle.step.proofs.Loop.{queue-length, out-length}
 use Rattle.step.proofs.WholeKept.{push_kept, step_kept}
 use Rattle.step.specs.Step.{front_place, waits, begun_of, Ran, turn_of, runs, ran}
 use Rattle.board_words.specs.Words.{shown_in, spot_in, stored_words}
-use Rattle.driver_carry.specs.Carry.{Bench, Agrees, BenchOk, pushed, after}
+use Rattle.driver_carry.specs.Carry.{Bench, Agrees, BenchOk, pushed, carried_out}
 use Rattle.driver_carry.proofs.Agreed.{step-agreed, polled-script, written-script, push-agreed}
 use Rattle.driver_carry.proofs.Calls.{spot-full, spot-room}
 
@@ -69,9 +69,9 @@ module _ (h : Bench) (ok : BenchOk h) where
   abbrev b : Board
   b = h.board
 
-  pub push_ok : Typed b → (time next : ℕ) (action : Action) → BenchOk (after h (Timed time action next))
-  unfolding after
-  push_ok t time next action =
+  pub push_ok : Typed b → (time : ℕ) (action : Action) → BenchOk (carried_out h (Timed time action))
+  unfolding carried_out
+  push_ok t time action =
       record {
         whole = push_kept b (shown_in h.script (front_place b)) time ok.whole;
         queue = ok.queue;
@@ -92,9 +92,9 @@ module _ (h : Bench) (ok : BenchOk h) where
       (either (λ (c : Chip). c.script ≡ b.chip.script) (polls_at b.chip addr) _ _ (polled-script b.chip) refl)
       refl
 
-  pub read_ok : (addr next : ℕ) → BenchOk (after h (Ordered (Read addr) next))
-  unfolding after
-  read_ok addr next =
+  pub read_ok : (addr : ℕ) → BenchOk (carried_out h (Ordered (Read addr)))
+  unfolding carried_out
+  read_ok addr =
       record {
         whole = read-call-kept b ok.whole addr h.first h.second;
         queue = ok.queue;
@@ -104,9 +104,9 @@ module _ (h : Bench) (ok : BenchOk h) where
         acts = ok.acts;
       }
 
-  pub write-ok : (addr v next : ℕ) → v < 2 ^ 32 → BenchOk (after h (Ordered (Write addr v) next))
-  unfolding after write_call write_first write_second
-  write-ok addr v next r =
+  pub write-ok : (addr v : ℕ) → v < 2 ^ 32 → BenchOk (carried_out h (Ordered (Write addr v)))
+  unfolding carried_out write_call write_first write_second
+  write-ok addr v r =
       let x = eqb (banks_refused b (length h.first) (length h.second)) 0 in
       record {
         whole = write-call-kept b ok.whole addr v (length h.first) (length h.second) r;
@@ -117,9 +117,9 @@ module _ (h : Bench) (ok : BenchOk h) where
         acts = ok.acts;
       }
 
-  pub step_ok : (cycles next : ℕ) → BenchOk (after h (Ordered (Step cycles) next))
-  unfolding after ran
-  step_ok cycles next =
+  pub step_ok : (cycles : ℕ) → BenchOk (carried_out h (Ordered (Step cycles)))
+  unfolding carried_out ran
+  step_ok cycles =
       let look = words_at h.script in
       let n = places_in h.script in
       let r = runs-long look (waits b) (begun_of b cycles (shown_in h.script (front_place b)) h.queue h.acts, (h.queue, h.acts)) in

@@ -1,11 +1,12 @@
 -- Document 01's driver, a record at a time: what carrying out a record makes of all that a driver holds, and what it answers. Every record that can be carried out is one of the public calls
 -- (`read_call`, `write_call`, `step_of`, a push), so that the driver has no rule of its own beside the lines.
-use Rattle.std.specs.Prelude.{ℕ, true, cond, List, ◌≡◌, eqb, length}
+use Rattle.std.specs.Prelude.{ℕ, true, cond, List, Some, None, Ok, Err, ◌≡◌, eqb, length}
 use Rattle.board.specs.Calls.{read_call, write_call, write_first, write_second}
 use Rattle.irq.specs.Banks.{bank_words}
 use Rattle.records.specs.declared.Order.TheVariants.{Read, Write, Step}
-use Rattle.records.specs.declared.RecordAt.{RecordAt}
-use Rattle.records.specs.declared.RecordAt.TheVariants.{Timed, Order as Ordered, Broken, End}
+use Rattle.records.specs.Decoded.{RecordAt}
+use Rattle.records.specs.declared.Body.{Body}
+use Rattle.records.specs.declared.Body.TheVariants.{Timed, Order as Ordered}
 use Rattle.script.specs.Entries.{agrees_of}
 use Rattle.script.specs.Words.{word_of, words_at, places_in}
 use Rattle.state.specs.Whole.{Whole}
@@ -15,7 +16,7 @@ use Rattle.step.specs.declared.Stepped.{Stepped}
 use Rattle.uart.specs.Uart.{queue_bytes}
 use Rattle.board_words.specs.Words.{shown_in, spot_in, stored_words}
 use Rattle.driver_carry.specs.declared.Answer.{Answer}
-use Rattle.driver_carry.specs.declared.Answer.TheVariants.{Pushed, Read as ReadAnswer, Wrote, Stepped as StepAnswer, Refused, Broken as BrokenAnswer, Nothing}
+use Rattle.driver_carry.specs.declared.Answer.TheVariants.{Pushed, Read as ReadAnswer, Wrote, Stepped as StepAnswer, Refused, Broken, Nothing}
 use Rattle.driver_carry.specs.declared.Carried.{Carried}
 
 -- ---- what a driver holds: the board, and the memory that it lends: queue, script (as words), both banks, action output
@@ -89,29 +90,35 @@ stepped b cycles queue script acts = told_of (step_of b cycles (words_at script)
 
 -- ---- a record carried out: all that the driver holds after it, and what its line says
 
-unfoldable pub after : Bench → RecordAt → Bench
-after h (Timed time action next) =
+unfoldable pub carried_out : Bench → Body → Bench
+carried_out h (Timed time action) =
     bench_of (pushed h.board h.script time).board h.queue
     (stored_words (spot_in h.board h.script time) h.script time (word_of action))
     h.first h.second h.acts
-after h (Ordered (Read addr) next) =
+carried_out h (Ordered (Read addr)) =
     bench_of (read_by h.board addr h.first h.second).board h.queue h.script h.first h.second h.acts
-after h (Ordered (Write addr v) next) =
+carried_out h (Ordered (Write addr v)) =
     bench_of (wrote_by h.board addr v h.first h.second).board h.queue h.script
     (write_first h.board addr v h.first h.second) (write_second h.board addr v h.first h.second)
     h.acts
-after h (Ordered (Step cycles) next) =
+carried_out h (Ordered (Step cycles)) =
     bench_of (stepped h.board cycles h.queue h.script h.acts).board
     (step_in h.board cycles h.queue h.script h.acts).1.0 h.script h.first h.second
     (step_in h.board cycles h.queue h.script h.acts).1.1
-after h (Broken at) = h
-after h End = h
+
+abbrev pub after : Bench → RecordAt → Bench
+after h (Ok (Some r)) = carried_out h r.body
+after h (Ok None) = h
+after h (Err b) = h
+
+unfoldable pub said : Bench → Body → Answer
+said h (Timed time action) = (pushed h.board h.script time).answer
+said h (Ordered (Read addr)) = (read_by h.board addr h.first h.second).answer
+said h (Ordered (Write addr v)) = (wrote_by h.board addr v h.first h.second).answer
+said h (Ordered (Step cycles)) = (stepped h.board cycles h.queue h.script h.acts).answer
 
 -- "a broken or cut-off record prints `X` and its first byte's offset, and ends"
-unfoldable pub answer_of : Bench → RecordAt → Answer
-answer_of h (Timed time action next) = (pushed h.board h.script time).answer
-answer_of h (Ordered (Read addr) next) = (read_by h.board addr h.first h.second).answer
-answer_of h (Ordered (Write addr v) next) = (wrote_by h.board addr v h.first h.second).answer
-answer_of h (Ordered (Step cycles) next) = (stepped h.board cycles h.queue h.script h.acts).answer
-answer_of h (Broken at) = BrokenAnswer at
-answer_of h End = Nothing
+abbrev pub answer_of : Bench → RecordAt → Answer
+answer_of h (Ok (Some r)) = said h r.body
+answer_of h (Ok None) = Nothing
+answer_of h (Err b) = Broken b.at

@@ -21,8 +21,7 @@ ghost use Rattle.driver_carry.specs.Carry.{
 };
 
 use audio::Half;
-use records::{Action, Order, RecordAt};
-use regs::Value;
+use records::{Action, Body, Broken, Order, Record};
 use state::Board;
 use step::Stepped;
 use uart::Byte;
@@ -35,7 +34,7 @@ pub enum Answer {
     },
     Read {
         addr: u32,
-        value: Value,
+        value: Option<u32>,
     },
     Wrote {
         addr: u32,
@@ -44,8 +43,8 @@ pub enum Answer {
     },
     Stepped {
         clock: u64,
-        audio: Half,
-        byte: Byte,
+        audio: Option<Half>,
+        byte: Option<Byte>,
         applied: u32,
     },
     Refused {
@@ -68,9 +67,8 @@ fn push(b: Board, script: &mut [u64], time: u64, action: Action) -> Carried
         × (script.new ≡ stored_words (spot_in b script.old time) script.old time (word_of action)) }
 {
     let p = board_words::push(b, script, time, action);
-    let after = p.board;
     Carried {
-        board: after,
+        board: p.board,
         answer: Answer::Pushed { number: p.refused },
     }
 }
@@ -89,11 +87,13 @@ fn read<'a>(b: Board, addr: u32, icfg: &'a [u32], icfg1: &'a [u32]) -> Carried
     ensures { result ≡ read_by b addr icfg.now icfg1.now }
 {
     let reading = board::read(b, addr, icfg, icfg1);
-    let after = reading.board;
-    let value = reading.value;
+    let done = Answer::Read {
+        addr,
+        value: reading.value,
+    };
     Carried {
-        board: after,
-        answer: answer_by(Answer::Read { addr, value }, reading.refused),
+        board: reading.board,
+        answer: answer_by(done, reading.refused),
     }
 }
 
@@ -104,9 +104,8 @@ fn write(b: Board, addr: u32, value: u32, icfg: &mut [u32], icfg1: &mut [u32]) -
         × (value < 2 ^ 32) }
 {
     let written = board::write(b, addr, value, icfg, icfg1);
-    let after = written.board;
     Carried {
-        board: after,
+        board: written.board,
         answer: Answer::Wrote {
             addr,
             value,
@@ -119,17 +118,14 @@ fn write(b: Board, addr: u32, value: u32, icfg: &mut [u32], icfg1: &mut [u32]) -
 pub fn told(s: Stepped) -> Carried
     ensures { result ≡ told_of s }
 {
-    let after = s.board;
-    let audio = s.audio_half;
-    let byte = s.uart_rx;
     let done = Answer::Stepped {
-        clock: after.chip.clock.cycles,
-        audio,
-        byte,
+        clock: s.board.chip.clock.cycles,
+        audio: s.audio_half,
+        byte: s.uart_rx,
         applied: s.applied,
     };
     Carried {
-        board: after,
+        board: s.board,
         answer: answer_by(done, s.refused),
     }
 }
@@ -145,7 +141,7 @@ fn step(b: Board, cycles: u64, queue: &mut [u8], script: &[u64], acts: &mut [u8]
 // What was found: a record that is carried out, or one that is broken, or none.
 pub fn carry(
     b: Board,
-    found: RecordAt,
+    found: Result<Option<Record>, Broken>,
     queue: &mut [u8],
     script: &mut [u64],
     icfg: &mut [u32],
@@ -157,23 +153,21 @@ pub fn carry(
     ensures kept { BenchOk (bench_of b queue.old script.old icfg.old icfg1.old acts.old) → BenchOk (bench_of result.board queue.new script.new icfg.new icfg1.new acts.new) }
 {
     match found {
-        RecordAt::Timed {
-            time,
-            action,
-            next: _,
-        } => push(b, script, time, action),
-        RecordAt::Order { order, next: _ } => match order {
-            Order::Read { addr } => read(b, addr, icfg, icfg1),
-            Order::Write { addr, value } => write(b, addr, value, icfg, icfg1),
-            Order::Step { cycles } => step(b, cycles, queue, script, acts),
+        Ok(Some(record)) => match record.body {
+            Body::Timed { time, action } => push(b, script, time, action),
+            Body::Order(order) => match order {
+                Order::Read { addr } => read(b, addr, icfg, icfg1),
+                Order::Write { addr, value } => write(b, addr, value, icfg, icfg1),
+                Order::Step { cycles } => step(b, cycles, queue, script, acts),
+            },
         },
-        RecordAt::Broken { at } => Carried {
-            board: b,
-            answer: Answer::Broken { at },
-        },
-        RecordAt::End => Carried {
+        Ok(None) => Carried {
             board: b,
             answer: Answer::Nothing,
+        },
+        Err(Broken { at }) => Carried {
+            board: b,
+            answer: Answer::Broken { at },
         },
     }
 }

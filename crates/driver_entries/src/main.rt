@@ -7,7 +7,7 @@ use board_entries_by_value::{advance_in, new_in, push_in};
 use board_guard::BANK_WORDS;
 use driver_carry::{Answer, carry as carry_out, told};
 use driver_lines::put_line;
-use records::{Action, Order, RecordAt, decode};
+use records::{Action, Body, Broken, Order, Record, decode};
 use script::{Entry, SCRIPT_LEN};
 use state::Board;
 use step::OUT_BYTES;
@@ -15,9 +15,6 @@ use text::{STDIN, STDOUT, first};
 use uart::QUEUE_LEN;
 
 const RATE: u64 = 240_000_000;
-
-// No record has this offset: nothing comes after the last record, or after one that is broken.
-const NOWHERE: usize = 18_446_744_073_709_551_615;
 
 #[derive(Clone, Copy)]
 struct Outcome {
@@ -59,9 +56,7 @@ fn run(
     let made = new_in(RATE, queue, script, icfg, icfg1);
     let mut b = made.board;
     let mut at: usize = 0;
-    let mut turns = u64::MAX;
-    while 0 < turns {
-        turns = turns - 1;
+    for _ in 0..u64::MAX {
         let found = decode(input, at);
         let c = carried_out(b, script, found, queue, icfg, icfg1, acts);
         let answer = c.answer;
@@ -69,44 +64,29 @@ fn run(
         script = c.script;
         let len = put_line(line, 0, answer);
         io::write_all(STDOUT, first(line, len));
-        at = next_of(found);
-        if at == NOWHERE {
-            turns = 0;
-        }
-    }
-}
-
-fn next_of(found: RecordAt) -> usize {
-    match found {
-        RecordAt::Timed {
-            time: _,
-            action: _,
-            next,
-        } => next,
-        RecordAt::Order { order: _, next } => next,
-        _ => NOWHERE,
+        // nothing comes after the last record, or after one that is broken
+        let Ok(Some(record)) = found else {
+            break;
+        };
+        at = record.next;
     }
 }
 
 fn carried_out(
     b: Board,
     script: [Entry; SCRIPT_LEN],
-    found: RecordAt,
+    found: Result<Option<Record>, Broken>,
     queue: &mut [u8; QUEUE_LEN],
     icfg: &mut [u32; BANK_WORDS],
     icfg1: &mut [u32; BANK_WORDS],
     acts: &mut [u8; OUT_BYTES],
 ) -> Outcome {
-    match found {
-        RecordAt::Timed {
-            time,
-            action,
-            next: _,
-        } => pushed(b, script, time, action),
-        RecordAt::Order { order, next: _ } => match order {
-            Order::Step { cycles } => stepped(b, script, cycles, queue, acts),
-            _ => other(b, script, found, queue, icfg, icfg1, acts),
-        },
+    let Ok(Some(record)) = found else {
+        return other(b, script, found, queue, icfg, icfg1, acts);
+    };
+    match record.body {
+        Body::Timed { time, action } => pushed(b, script, time, action),
+        Body::Order(Order::Step { cycles }) => stepped(b, script, cycles, queue, acts),
         _ => other(b, script, found, queue, icfg, icfg1, acts),
     }
 }
@@ -118,7 +98,7 @@ fn pushed(mut b: Board, mut script: [Entry; SCRIPT_LEN], time: u64, action: Acti
     script = h.script;
     Outcome {
         board: b,
-        script: script,
+        script,
         answer: Answer::Pushed { number: p.refused },
     }
 }
@@ -135,8 +115,8 @@ fn stepped(
     let answer = t.answer;
     Outcome {
         board: b,
-        script: script,
-        answer: answer,
+        script,
+        answer,
     }
 }
 
@@ -144,7 +124,7 @@ fn stepped(
 fn other(
     mut b: Board,
     script: [Entry; SCRIPT_LEN],
-    found: RecordAt,
+    found: Result<Option<Record>, Broken>,
     queue: &mut [u8; QUEUE_LEN],
     icfg: &mut [u32; BANK_WORDS],
     icfg1: &mut [u32; BANK_WORDS],
@@ -156,7 +136,7 @@ fn other(
     let answer = c.answer;
     Outcome {
         board: b,
-        script: script,
-        answer: answer,
+        script,
+        answer,
     }
 }

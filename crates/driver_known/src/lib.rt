@@ -3,23 +3,18 @@
 
 ghost use Rattle.std.specs.Prelude.{◌≡◌};
 ghost use Rattle.driver_carry.specs.Carry.{Bench, bench_of, BenchOk, answer_of, after};
-ghost use Rattle.driver_turns.specs.Held.{held_of};
+ghost use Rattle.step.specs.Apply.{board_of};
 
 use driver_carry::Answer;
 use driver_ways::{Outcome, push, read_at, step, told, write_at};
-use records::{Order, RecordAt};
-use state::Chip;
+use records::{Body, Broken, Order, Record};
+use state::{Chip, Panel};
 
 // What was found: a record that is carried out, or one that is broken, or none.
 pub fn carried(
     c: Chip,
-    acc: &mut [u64; 41],
-    t0: &mut [u64; 41],
-    dur: &mut [u32; 41],
-    from: &mut [f32; 41],
-    to: &mut [f32; 41],
-    values: &mut [u16; 16],
-    found: RecordAt,
+    panel: &mut Panel,
+    found: Result<Option<Record>, Broken>,
     queue: &mut [u8],
     script: &mut [u64],
     icfg: &mut [u32],
@@ -28,27 +23,21 @@ pub fn carried(
 ) -> Outcome
     ghost h: { Bench }
     requires bench_ok { BenchOk h }
-    requires before { bench_of (held_of c acc.old t0.old dur.old from.old to.old values.old) queue.old script.old icfg.old icfg1.old acts.old ≡ h }
+    requires before { bench_of (board_of c panel.old) queue.old script.old icfg.old icfg1.old acts.old ≡ h }
     ensures { (result.answer ≡ answer_of h found)
-        × (bench_of (held_of result.chip acc.new t0.new dur.new from.new to.new values.new) queue.new script.new icfg.new icfg1.new acts.new ≡ after h found)
-        × BenchOk (bench_of (held_of result.chip acc.new t0.new dur.new from.new to.new values.new) queue.new script.new icfg.new icfg1.new acts.new) }
+        × (bench_of (board_of result.chip panel.new) queue.new script.new icfg.new icfg1.new acts.new ≡ after h found)
+        × BenchOk (bench_of (board_of result.chip panel.new) queue.new script.new icfg.new icfg1.new acts.new) }
 {
     match found {
-        RecordAt::Timed {
-            time,
-            action,
-            next: _,
-        } => push(c, script, time, action),
-        RecordAt::Order { order, next: _ } => match order {
-            Order::Read { addr } => read_at(c, addr, icfg, icfg1),
-            Order::Write { addr, value } => write_at(
-                c, acc, t0, dur, from, to, values, addr, value, icfg, icfg1,
-            ),
-            Order::Step { cycles } => step(
-                c, acc, t0, dur, from, to, values, cycles, queue, script, acts,
-            ),
+        Ok(Some(record)) => match record.body {
+            Body::Timed { time, action } => push(c, script, time, action),
+            Body::Order(order) => match order {
+                Order::Read { addr } => read_at(c, addr, icfg, icfg1),
+                Order::Write { addr, value } => write_at(c, panel, addr, value, icfg, icfg1),
+                Order::Step { cycles } => step(c, panel, cycles, queue, script, acts),
+            },
         },
-        RecordAt::Broken { at } => told(c, Answer::Broken { at }),
-        RecordAt::End => told(c, Answer::Nothing),
+        Ok(None) => told(c, Answer::Nothing),
+        Err(Broken { at }) => told(c, Answer::Broken { at }),
     }
 }

@@ -7,15 +7,12 @@ use native.Mathlib.Omega.{arith}
 use lib.Dec.{ltb}
 use lib.ListN.{length, length-append}
 use Rattle.audio.specs.declared.Half.{Half}
-use Rattle.audio.specs.declared.Half.TheVariants.{Done, None as NoHalf}
+use Rattle.std.specs.Prelude.{Option, Some, None}
 use Rattle.driver_carry.specs.declared.Answer.{Answer}
 use Rattle.driver_carry.specs.declared.Answer.TheVariants.{Pushed, Read, Wrote, Stepped, Refused, Broken, Nothing}
 use Rattle.io.specs.Digits.{last_digits}
-use Rattle.regs.specs.declared.reads.Value.{Value}
-use Rattle.regs.specs.declared.reads.Value.TheVariants.{Is, None}
 use Rattle.text.specs.Putting.{places, decimal_of, hex_width, hex_of}
 use Rattle.uart.specs.declared.Byte.{Byte}
-use Rattle.uart.specs.declared.Byte.TheVariants.{Got, None as NoByte}
 use Rattle.driver_lines.specs.Lines.{value_text, half_text, byte_text, flag_text, line_of}
 
 digits_long : (b k n : ℕ) → length (last_digits b k n) ≡ k
@@ -44,17 +41,17 @@ hex-short n width h =
 eight : (n : ℕ) → length (hex_of n 8) ≤ 16
 eight n = hex-short n 8 (omega arith)
 
-value-short : (v : Value) → length (value_text v) ≤ 16
-value-short (Is n) = eight n
+value-short : (v : Option ℕ) → length (value_text v) ≤ 16
+value-short (Some n) = eight n
 value-short None = omega arith
 
-half-short : (h : Half) → length (half_text h) ≤ 37
-half-short (Done addr words) = simp length-append (let x = eight addr in let y = decimal-short words in omega (arith, x, y))
-half-short NoHalf = omega arith
+half-short : (h : Option Half) → length (half_text h) ≤ 37
+half-short (Some h) = simp length-append (let x = eight h.addr in let y = decimal-short h.words in omega (arith, x, y))
+half-short None = omega arith
 
-byte-short : (x : Byte) → length (byte_text x) ≤ 33
-byte-short (Got addr b) = simp length-append (let x = eight addr in let y = hex-short b 2 (omega arith) in omega (arith, x, y))
-byte-short NoByte = omega arith
+byte-short : (x : Option Byte) → length (byte_text x) ≤ 33
+byte-short (Some z) = simp length-append (let x = eight z.addr in let y = hex-short z.b 2 (omega arith) in omega (arith, x, y))
+byte-short None = omega arith
 
 flag-short : (t : Bool) → length (flag_text t) ≤ 1
 flag-short true = omega arith

@@ -1,15 +1,11 @@
 -- The driver's lines, document 01: "Per record, a line". "Addresses, values and bytes are hex (8, 8, 2 digits), the rest decimal." One space between fields, a line feed at the end.
-use Rattle.std.specs.Prelude.{ℕ, Bool, cond, List, [], ◌∷◌, ◌++◌}
+use Rattle.std.specs.Prelude.{ℕ, Bool, cond, List, [], ◌∷◌, ◌++◌, Option, Some, None}
 use Rattle.audio.specs.declared.Half.{Half}
-use Rattle.audio.specs.declared.Half.TheVariants.{Done, None as NoHalf}
 use Rattle.driver_carry.specs.declared.Answer.{Answer}
 use Rattle.driver_carry.specs.declared.Answer.TheVariants.{Pushed, Read, Wrote, Stepped, Refused, Broken, Nothing}
-use Rattle.regs.specs.declared.reads.Value.{Value}
-use Rattle.regs.specs.declared.reads.Value.TheVariants.{Is, None}
 use Rattle.text.specs.Ascii.{bytes}
 use Rattle.text.specs.Putting.{decimal_of, hex_of}
 use Rattle.uart.specs.declared.Byte.{Byte}
-use Rattle.uart.specs.declared.Byte.TheVariants.{Got, None as NoByte}
 
 abbrev pub space : List ℕ
 space = bytes " "
@@ -18,19 +14,19 @@ abbrev pub end : List ℕ
 end = 10 ∷ []
 
 -- "value or `none`"
-abbrev pub value_text : Value → List ℕ
-value_text (Is n) = hex_of n 8
+abbrev pub value_text : Option ℕ → List ℕ
+value_text (Some n) = hex_of n 8
 value_text None = bytes "none"
 
 -- "audio (address/words) or `-`"
-abbrev pub half_text : Half → List ℕ
-half_text (Done addr words) = hex_of addr 8 ++ (bytes "/" ++ decimal_of words)
-half_text NoHalf = bytes "-"
+abbrev pub half_text : Option Half → List ℕ
+half_text (Some h) = hex_of h.addr 8 ++ (bytes "/" ++ decimal_of h.words)
+half_text None = bytes "-"
 
 -- "byte (address/byte) or `-`"
-abbrev pub byte_text : Byte → List ℕ
-byte_text (Got addr b) = hex_of addr 8 ++ (bytes "/" ++ hex_of b 2)
-byte_text NoByte = bytes "-"
+abbrev pub byte_text : Option Byte → List ℕ
+byte_text (Some x) = hex_of x.addr 8 ++ (bytes "/" ++ hex_of x.b 2)
+byte_text None = bytes "-"
 
 -- "1 or 0"
 abbrev pub flag_text : Bool → List ℕ
@@ -40,7 +36,7 @@ abbrev pub number_line : List ℕ → ℕ → List ℕ
 number_line letter n = letter ++ (decimal_of n ++ end)
 
 -- "`R` address, value or `none`"
-abbrev pub read_line : ℕ → Value → List ℕ
+abbrev pub read_line : ℕ → Option ℕ → List ℕ
 read_line addr v = bytes "R " ++ (hex_of addr 8 ++ (space ++ (value_text v ++ end)))
 
 -- "`W` address, value, 1 or 0"
@@ -48,7 +44,7 @@ abbrev pub write_line : ℕ → ℕ → Bool → List ℕ
 write_line addr v handled = bytes "W " ++ (hex_of addr 8 ++ (space ++ (hex_of v 8 ++ (space ++ (flag_text handled ++ end)))))
 
 -- "`A` clock, audio (address/words) or `-`, byte (address/byte) or `-`, actions applied"
-abbrev pub step_line : ℕ → Half → Byte → ℕ → List ℕ
+abbrev pub step_line : ℕ → Option Half → Option Byte → ℕ → List ℕ
 step_line clock half byte applied =
     bytes "A " ++ (decimal_of clock ++ (space ++ (half_text half ++ (space ++ (byte_text byte ++ (space ++ (decimal_of applied ++ end)))))))
 

@@ -7,45 +7,44 @@ ghost use Rattle.driver_lines.specs.Lines.{value_text, half_text, byte_text, fla
 
 use audio::Half;
 use driver_carry::Answer;
-use regs::Value;
 use text::{put, put_decimal, put_hex, put_text};
 use uart::Byte;
 
-fn put_value(out: &mut [u8], at: usize, v: Value) -> usize
+fn put_value(out: &mut [u8], at: usize, v: Option<u32>) -> usize
     ensures place { result ≡ place_after_all (length out.old) at (value_text v) }
     ensures bytes { out.new ≡ put_all out.old at (value_text v) }
 {
     match v {
-        Value::Is(n) => put_hex(out, at, n as u64, 8),
-        Value::None => put_text(out, at, b"none"),
+        Some(n) => put_hex(out, at, n as u64, 8),
+        None => put_text(out, at, b"none"),
     }
 }
 
-fn put_half(out: &mut [u8], at: usize, half: Half) -> usize
+fn put_half(out: &mut [u8], at: usize, half: Option<Half>) -> usize
     ensures place { result ≡ place_after_all (length out.old) at (half_text half) }
     ensures bytes { out.new ≡ put_all out.old at (half_text half) }
 {
     match half {
-        Half::Done { addr, words } => {
+        Some(Half { addr, words }) => {
             let address = put_hex(out, at, addr as u64, 8);
             let slash = put_text(out, address, b"/");
             put_decimal(out, slash, words as u64)
         }
-        Half::None => put_text(out, at, b"-"),
+        None => put_text(out, at, b"-"),
     }
 }
 
-fn put_byte(out: &mut [u8], at: usize, byte: Byte) -> usize
+fn put_byte(out: &mut [u8], at: usize, byte: Option<Byte>) -> usize
     ensures place { result ≡ place_after_all (length out.old) at (byte_text byte) }
     ensures bytes { out.new ≡ put_all out.old at (byte_text byte) }
 {
     match byte {
-        Byte::Got { addr, b } => {
+        Some(Byte { addr, b }) => {
             let address = put_hex(out, at, addr as u64, 8);
             let slash = put_text(out, address, b"/");
             put_hex(out, slash, b as u64, 2)
         }
-        Byte::None => put_text(out, at, b"-"),
+        None => put_text(out, at, b"-"),
     }
 }
 
@@ -69,7 +68,7 @@ fn put_number(out: &mut [u8], at: usize, letter: &[u8], n: u64) -> usize
     put_text(out, numbered, b"\n")
 }
 
-fn put_read(out: &mut [u8], at: usize, addr: u32, v: Value) -> usize
+fn put_read(out: &mut [u8], at: usize, addr: u32, v: Option<u32>) -> usize
     ensures place { result ≡ place_after_all (length out.old) at (read_line addr v) }
     ensures bytes { out.new ≡ put_all out.old at (read_line addr v) }
 {
@@ -93,7 +92,14 @@ fn put_write(out: &mut [u8], at: usize, addr: u32, v: u32, handled: bool) -> usi
     put_text(out, flag, b"\n")
 }
 
-fn put_step(out: &mut [u8], at: usize, clock: u64, half: Half, byte: Byte, applied: u32) -> usize
+fn put_step(
+    out: &mut [u8],
+    at: usize,
+    clock: u64,
+    half: Option<Half>,
+    byte: Option<Byte>,
+    applied: u32,
+) -> usize
     ensures place { result ≡ place_after_all (length out.old) at (step_line clock half byte applied) }
     ensures bytes { out.new ≡ put_all out.old at (step_line clock half byte applied) }
 {

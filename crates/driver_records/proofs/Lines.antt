@@ -4,26 +4,24 @@ use mathlib.Core.List.{List, [], ◌∷◌, ◌++◌}
 use Prim.Native.Nat.{ℕ, zero, suc, ◌≤◌, ◌<◌}
 use native.Mathlib.Omega.{arith}
 use lib.ListN.{length, length-drop}
-use Rattle.records.specs.Decoded.{record_of}
-use Rattle.records.specs.declared.RecordAt.{RecordAt}
-use Rattle.records.specs.declared.RecordAt.TheVariants.{Timed, Order as Ordered, Broken, End}
-use Rattle.records.proofs.Progress.{any-passes, order-passes, any-empty-end}
+use Rattle.std.specs.Prelude.{Some, None, Ok, Err}
+use Rattle.records.specs.Decoded.{RecordAt, record_of}
+use Rattle.records.proofs.Progress.{record-passes, any-empty-end}
 use Rattle.driver_carry.specs.Carry.{Bench, answer_of, after}
 use Rattle.driver_lines.specs.Lines.{line_of}
 use Rattle.driver_records.specs.Records.{next_of, left_of, lines_in, lines_from}
 
 -- "Empty input prints nothing"
 nothing : (turns : ℕ) (h : Bench) (at : ℕ) → lines_in turns h [] at ≡ []
-unfolding lines_in answer_of after line_of
+unfolding lines_in line_of
 nothing zero h at = refl
 nothing (suc turns) h at = rw (any-empty-end [] at refl) (nothing turns h at)
 
 -- a record leaves fewer bytes than there were
 fewer : (s : List ℕ) (at : ℕ) (r : RecordAt) → record_of s at ≡ r → 0 < length s → length (left_of r at s) < length s
-fewer s at (Timed time action next) e h = let p = any-passes s at time next action e in simp length-drop (omega arith)
-fewer s at (Ordered order next) e h = let p = order-passes s at next order e in simp length-drop (omega arith)
-fewer s at (Broken here) e h = h
-fewer s at End e h = h
+fewer s at (Ok (Some r)) e h = let p = record-passes s at r e in simp length-drop (omega arith)
+fewer s at (Ok None) e h = h
+fewer s at (Err b) e h = h
 
 enough : (n m : ℕ) (h : Bench) (s : List ℕ) (at : ℕ) → length s ≤ n → length s ≤ m → lines_in n h s at ≡ lines_in m h s at
 unfolding lines_in
@@ -50,7 +48,7 @@ module _ (h : Bench) where
   lines_none at = refl
 
   at-end : (at : ℕ) → line_of (answer_of h (record_of [] at)) ++ lines_from (after h (record_of [] at)) (left_of (record_of [] at) at []) (next_of (record_of [] at) at) ≡ []
-  unfolding lines_from lines_in answer_of after line_of
+  unfolding lines_from lines_in line_of
   at-end at = rw (any-empty-end [] at refl)
 
   first_then : (s : List ℕ) (at : ℕ)

@@ -10,12 +10,10 @@ use lib.Dec.{leb}
 use lib.ListN.{length, take, drop, length-append, length-drop}
 use lib.Seq.{length-take-le, take_at, drop-append-le, drop-drop}
 use Rattle.base.proofs.Flags.{both}
-use Rattle.records.specs.Decoded.{record_of}
-use Rattle.records.specs.declared.Order.TheVariants.{Read, Write, Step}
-use Rattle.records.specs.declared.RecordAt.{RecordAt}
-use Rattle.records.specs.declared.RecordAt.TheVariants.{Timed, Order as Ordered, Broken, End}
+use Rattle.std.specs.Prelude.{Some, None, Ok, Err}
+use Rattle.records.specs.Decoded.{RecordAt, record_of}
 use Rattle.records.proofs.Alike.{record-alike, moved, record-moved}
-use Rattle.records.proofs.Progress.{any_next, order-next, any-broken-here}
+use Rattle.records.proofs.Progress.{record-next, any-broken-here}
 use Rattle.text.specs.Putting.{place_after_all, put_all}
 use Rattle.text.proofs.Putter.{put-all-length, put-all-fits, place-fits}
 use Rattle.driver_carry.specs.Carry.{Bench, BenchOk, answer_of, after}
@@ -51,34 +49,24 @@ turns_left ended n at = cond ended 0 (1 + (n - at))
 
 module _ (h : Bench) (base at : ℕ) where
   same_answer_lem : (s : List ℕ) (r : RecordAt) → record_of s at ≡ r → answer_of h (moved base r) ≡ answer_of h (told_at r (base + at))
-  unfolding answer_of
-  same_answer_lem s (Timed time action next) e = refl
-  same_answer_lem s (Ordered (Read addr) next) e = refl
-  same_answer_lem s (Ordered (Write addr v) next) e = refl
-  same_answer_lem s (Ordered (Step cycles) next) e = refl
-  same_answer_lem s (Broken here) e = ap (λ (k : ℕ). BrokenAnswer (base + k)) (any-broken-here s at here e)
-  same_answer_lem s End e = refl
+  same_answer_lem s (Ok (Some r)) e = refl
+  same_answer_lem s (Ok None) e = refl
+  same_answer_lem s (Err b) e = ap (λ (k : ℕ). BrokenAnswer (base + k)) (any-broken-here s at b.at e)
 
   same_after : (r : RecordAt) → after h (moved base r) ≡ after h (told_at r (base + at))
-  unfolding after
-  same_after (Timed time action next) = refl
-  same_after (Ordered (Read addr) next) = refl
-  same_after (Ordered (Write addr v) next) = refl
-  same_after (Ordered (Step cycles) next) = refl
-  same_after (Broken here) = refl
-  same_after End = refl
+  same_after (Ok (Some r)) = refl
+  same_after (Ok None) = refl
+  same_after (Err b) = refl
 
   next-moved : (r : RecordAt) → next_of (moved base r) (base + at) ≡ base + next_of r at
-  next-moved (Timed time action next) = refl
-  next-moved (Ordered order next) = refl
-  next-moved (Broken here) = refl
-  next-moved End = refl
+  next-moved (Ok (Some r)) = refl
+  next-moved (Ok None) = refl
+  next-moved (Err b) = refl
 
   next-told : (r : RecordAt) → next_of (told_at r (base + at)) at ≡ next_of r at
-  next-told (Timed time action next) = refl
-  next-told (Ordered order next) = refl
-  next-told (Broken here) = refl
-  next-told End = refl
+  next-told (Ok (Some r)) = refl
+  next-told (Ok None) = refl
+  next-told (Err b) = refl
 
 module _ (h₀ : Bench) (bytes : List ℕ) (base : ℕ) (last : Bool) where
   pub begins : (out : List ℕ) → BenchOk h₀ → Lined h₀ bytes base last h₀ 0 out 0 false
@@ -120,23 +108,20 @@ module _ (h₀ : Bench) (bytes : List ℕ) (base : ℕ) (last : Bool) where
 
     left-moved : (r : RecordAt) → record_of (drop at bytes) at ≡ r → (next_of r at ≡ at → ⊥) → (rest : List ℕ)
         → left_of (moved base r) (base + at) (drop at bytes ++ rest) ≡ drop (next_of r at) bytes ++ rest
-    left-moved (Timed time action next) e new rest = let p = any_next bytes at time next action e in left_is next (omega arith) p.1 rest
-    left-moved (Ordered order next) e new rest = let p = order-next bytes at next order e in left_is next (omega arith) p.1 rest
-    left-moved (Broken here) e new rest = absurd (new refl)
-    left-moved End e new rest = absurd (new refl)
+    left-moved (Ok (Some r)) e new rest = let p = record-next bytes at r e in left_is r.next (omega arith) p.1 rest
+    left-moved (Ok None) e new rest = absurd (new refl)
+    left-moved (Err b) e new rest = absurd (new refl)
 
     further : (r : RecordAt) → record_of (drop at bytes) at ≡ r → (next_of r at ≡ at → ⊥) → (at < next_of r at) × (next_of r at ≤ length bytes)
-    further (Timed time action next) e new = let p = any_next bytes at time next action e in (omega arith, p.1)
-    further (Ordered order next) e new = let p = order-next bytes at next order e in (omega arith, p.1)
-    further (Broken here) e new = absurd (new refl)
-    further End e new = absurd (new refl)
+    further (Ok (Some r)) e new = let p = record-next bytes at r e in (omega arith, p.1)
+    further (Ok None) e new = absurd (new refl)
+    further (Err b) e new = absurd (new refl)
 
     -- behind a broken record, and at the end, nothing comes
     nothing_left : (r : RecordAt) → record_of (drop at bytes) at ≡ r → next_of r at ≡ at → (s : List ℕ) → left_of (moved base r) (base + at) s ≡ []
-    nothing_left (Timed time action next) e same s = let p = any_next bytes at time next action e in absurd (omega arith)
-    nothing_left (Ordered order next) e same s = let p = order-next bytes at next order e in absurd (omega arith)
-    nothing_left (Broken here) e same s = refl
-    nothing_left End e same s = refl
+    nothing_left (Ok (Some r)) e same s = let p = record-next bytes at r e in absurd (omega arith)
+    nothing_left (Ok None) e same s = refl
+    nothing_left (Err b) e same s = refl
 
     pub sooner-ended : 0 < turns_left ended (length bytes) at
     sooner-ended = rw fact.going (omega arith)

@@ -1,8 +1,6 @@
 -- Document 01's driver on bytes that lie in memory: the records that they hold, and what is printed for them, one after the other.
-use Rattle.std.specs.Prelude.{ℕ, zero, suc, ◌+◌, ◌-◌, ◌≤◌, Bool, true, cond, not, ◌&&◌, ◌||◌, List, [], ◌++◌, ◌≡◌, leb, length, take, drop}
-use Rattle.records.specs.Decoded.{record_of}
-use Rattle.records.specs.declared.RecordAt.{RecordAt}
-use Rattle.records.specs.declared.RecordAt.TheVariants.{Timed, Order as Ordered, Broken, End}
+use Rattle.std.specs.Prelude.{ℕ, zero, suc, ◌+◌, ◌-◌, ◌≤◌, Bool, true, cond, not, ◌&&◌, ◌||◌, List, [], ◌++◌, ◌≡◌, leb, length, take, drop, Some, None, Ok, Err}
+use Rattle.records.specs.Decoded.{RecordAt, record_of, broken_at}
 use Rattle.driver_carry.specs.Carry.{Bench, BenchOk, answer_of, after}
 use Rattle.driver_lines.specs.Lines.{line_of}
 
@@ -10,17 +8,15 @@ use Rattle.driver_lines.specs.Lines.{line_of}
 
 -- where the next record begins: nowhere further on behind a broken one, or behind the last
 abbrev pub next_of : RecordAt → ℕ → ℕ
-next_of (Timed time action next) at = next
-next_of (Ordered order next) at = next
-next_of (Broken here) at = at
-next_of End at = at
+next_of (Ok (Some r)) at = r.next
+next_of (Ok None) at = at
+next_of (Err b) at = at
 
 -- the bytes behind a record, of s whose first byte has the offset `at`: a broken record "ends", so none count behind it
 abbrev pub left_of : RecordAt → ℕ → List ℕ → List ℕ
-left_of (Timed time action next) at s = drop (next - at) s
-left_of (Ordered order next) at s = drop (next - at) s
-left_of (Broken here) at s = []
-left_of End at s = []
+left_of (Ok (Some r)) at s = drop (r.next - at) s
+left_of (Ok None) at s = []
+left_of (Err b) at s = []
 
 -- "Per record, a line": the first record's, then those of what is left, on the bench as the record leaves it; of `turns` records at the most
 unfoldable pub lines_in : ℕ → Bench → List ℕ → ℕ → List ℕ
@@ -41,10 +37,8 @@ driver_lines h input = lines_from h input 0
 
 -- a record as the input has it: a broken one is told by its offset there
 abbrev pub told_at : RecordAt → ℕ → RecordAt
-told_at (Timed time action next) offset = Timed time action next
-told_at (Ordered order next) offset = Ordered order next
-told_at (Broken here) offset = Broken offset
-told_at End offset = End
+told_at (Ok found) offset = Ok found
+told_at (Err b) offset = broken_at offset
 
 -- the next record can be carried out: there is one, its line has room, and it is all there, whatever follows
 abbrev pub goes_on : Bool → ℕ → Bool → ℕ → Bool

@@ -4,13 +4,13 @@
 
 ghost use Rattle.std.specs.Prelude.{◌≡◌, false, ◌+◌, ◌-◌, ◌<◌, ◌^◌, length};
 ghost use Rattle.driver_carry.specs.Carry.{Bench, bench_of, BenchOk};
-ghost use Rattle.driver_turns.specs.Held.{held_of};
+ghost use Rattle.step.specs.Apply.{board_of};
 ghost use Rattle.driver_records.specs.Records.{next_of, told_at, goes_on, Lined};
 
 use driver_known::carried;
 use driver_lines::put_line;
-use records::{RecordAt, decode};
-use state::Chip;
+use records::{Broken, Record, decode};
+use state::{Chip, Panel};
 
 const LONGEST: usize = 17;
 
@@ -33,12 +33,7 @@ pub fn put_lines(
     last: bool,
     out: &mut [u8],
     mut c: Chip,
-    acc: &mut [u64; 41],
-    t0: &mut [u64; 41],
-    dur: &mut [u32; 41],
-    from: &mut [f32; 41],
-    to: &mut [f32; 41],
-    values: &mut [u16; 16],
+    panel: &mut Panel,
     queue: &mut [u8],
     script: &mut [u64],
     icfg: &mut [u32],
@@ -47,8 +42,8 @@ pub fn put_lines(
 ) -> Went
     ghost h: { Bench }
     requires bench_ok { BenchOk h × (base + length bytes.now < 2 ^ 64) }
-    requires before { bench_of (held_of c acc.old t0.old dur.old from.old to.old values.old) queue.old script.old icfg.old icfg1.old acts.old ≡ h }
-    ensures { Lined h bytes.now base last (bench_of (held_of result.chip acc.new t0.new dur.new from.new to.new values.new) queue.new script.new icfg.new icfg1.new acts.new) result.passed out.new result.put result.ended
+    requires before { bench_of (board_of c panel.old) queue.old script.old icfg.old icfg1.old acts.old ≡ h }
+    ensures { Lined h bytes.now base last (bench_of (board_of result.chip panel.new) queue.new script.new icfg.new icfg1.new acts.new) result.passed out.new result.put result.ended
         × (goes_on result.ended (length bytes.now - result.passed) last (length out.new - result.put) ≡ false) }
 {
     let mut at: usize = 0;
@@ -56,9 +51,7 @@ pub fn put_lines(
     let mut ended = false;
     while goes(ended, bytes.len() - at, last, out.len() - put) {
         let found = told_at(decode(bytes, at), base + at);
-        let o = carried(
-            c, acc, t0, dur, from, to, values, found, queue, script, icfg, icfg1, acts,
-        );
+        let o = carried(c, panel, found, queue, script, icfg, icfg1, acts);
         let d = o.chip;
         c = d;
         let answer = o.answer;
@@ -74,8 +67,8 @@ pub fn put_lines(
     Went {
         chip: c,
         passed: at,
-        put: put,
-        ended: ended,
+        put,
+        ended,
     }
 }
 
@@ -86,29 +79,18 @@ fn goes(ended: bool, left: usize, last: bool, room: usize) -> bool
     !ended & (LINE <= room) & (last | (LONGEST <= left))
 }
 
-fn next_of(found: RecordAt, at: usize) -> usize
+fn next_of(found: Result<Option<Record>, Broken>, at: usize) -> usize
     ensures { result ≡ next_of found at }
 {
     match found {
-        RecordAt::Timed {
-            time: _,
-            action: _,
-            next,
-        } => next,
-        RecordAt::Order { order: _, next } => next,
-        RecordAt::Broken { at: _ } => at,
-        RecordAt::End => at,
+        Ok(Some(record)) => record.next,
+        _ => at,
     }
 }
 
 // A broken record is told by its offset in the input.
-fn told_at(found: RecordAt, offset: usize) -> RecordAt
+fn told_at(found: Result<Option<Record>, Broken>, offset: usize) -> Result<Option<Record>, Broken>
     ensures { result ≡ told_at found offset }
 {
-    match found {
-        RecordAt::Timed { time, action, next } => RecordAt::Timed { time, action, next },
-        RecordAt::Order { order, next } => RecordAt::Order { order, next },
-        RecordAt::Broken { at: _ } => RecordAt::Broken { at: offset },
-        RecordAt::End => RecordAt::End,
-    }
+    found.or(Err(Broken { at: offset }))
 }

@@ -8,7 +8,8 @@ use lib.Dec.{ltb}
 use lib.ListN.{length}
 use Rattle.keys.specs.Facts.{RampsShort}
 use Rattle.records.specs.Encoded.{answer_of, written_of}
-use Rattle.records.specs.declared.Wrote.{Wrote}
+use Rattle.std.specs.Prelude.{Option}
+use Rattle.std.specs.Option.{unwrap_or}
 use Rattle.script.specs.Script.{looked_of, taken_of, next_place}
 use Rattle.script.specs.declared.Entry.{Entry}
 use Rattle.script.specs.declared.Script.{Script}
@@ -22,7 +23,7 @@ use Rattle.step.proofs.Applied.{applied-script}
 use Rattle.step.proofs.Loop.{Loop, Right, left, again, sooner}
 use Rattle.step.proofs.Turns.{shorter-kept, has_room}
 use Rattle.step.specs.Apply.{board_of, apply_of, apply_in}
-use Rattle.step.specs.Step.{Ready, shorter, record_of, reached_of, taken_by, turned_of, queue_of, out_of, Ran}
+use Rattle.step.specs.Step.{Ready, shorter, record_of, taken_by, turned_of, queue_of, out_of, Ran}
 use Rattle.step.specs.declared.Going.{Going}
 use Rattle.uart.specs.Uart.{queue_bytes}
 use Rattle.driver_turns.specs.Held.{going_by}
@@ -58,22 +59,25 @@ module _ (c : Chip) (p : Panel) (written applied : ℕ) (on : Bool) (e : Entry) 
         (subst (λ (b : Board). ChipOk b.chip) (sym shorter-is) k.chip, sound-short (shorter g) k, r.lent, omega (arith, r.lost))
 
     -- due: taken, applied and written
-    module _ (due : ltb c.clock.cycles e.at ≡ false) (d : Chip) (p' : Panel) (q' o' : List ℕ) (w : Wrote) (next : ℕ)
+    module _ (due : ltb c.clock.cycles e.at ≡ false) (d : Chip) (p' : Panel) (q' o' : List ℕ) (w : Option ℕ) (next : ℕ)
         (acted : board_of d p' ≡ apply_of (board_of (with_script c s) p) e.action) (offered : q' ≡ apply_in (board_of (with_script c s) p) e.action q)
-        (wrote : w ≡ answer_of o written (record_of e)) (told : o' ≡ written_of o written (record_of e)) (reached : next ≡ reached_of w written) where
+        (wrote : w ≡ answer_of o written (record_of e)) (told : o' ≡ written_of o written (record_of e)) (reached : next ≡ unwrap_or w written) where
       board-is : board_of d p' ≡ apply_of (shorter g) e.action
       board-is = acted ∙ ap (λ (b : Board). apply_of b e.action) shorter-is
 
-      room : reached_of (answer_of o written (record_of e)) written ≡ written + length (record_of e)
+      room : unwrap_or (answer_of o written (record_of e)) written ≡ written + length (record_of e)
       room = rw (has_room g e (length q) (length o) r)
 
       written_is : next ≡ written + length (record_of e)
-      written_is = reached ∙ ap (λ (x : Wrote). reached_of x written) wrote ∙ room
+      written_is = reached ∙ ap (λ (x : Option ℕ). unwrap_or x written) wrote ∙ room
 
       place_is : d.script.place ≡ next_place c.script
       place_is = ap (λ (b : Board). b.chip.script.place) board-is ∙ ap (λ (x : Script). x.place) (applied-script (shorter g) e.action)
 
-      going-is : going_by d p' next (applied + 1) (ltb 0 s.count) ≡ taken_by g e
+      count_is : d.script.count ≡ (taken_of c.script).count
+      count_is = ap (λ (b : Board). b.chip.script.count) board-is ∙ ap (λ (x : Script). x.count) (applied-script (shorter g) e.action)
+
+      going-is : going_by d p' next (applied + 1) (ltb 0 d.script.count) ≡ taken_by g e
       going-is = λ i. record {
         board = board-is i;
         audio_half = g.audio_half;
@@ -84,10 +88,10 @@ module _ (c : Chip) (p : Panel) (written applied : ℕ) (on : Bool) (e : Entry) 
         refused = 0;
         usb_frame = g.usb_frame;
         wdt = g.wdt;
-        on = ltb 0 (is i).count;
+        on = ltb 0 (count_is i);
         served = g.served;
       }
 
-      pub taken-turn : Right g e q o (going_by d p' next (applied + 1) (ltb 0 s.count)) q' o'
+      pub taken-turn : Right g e q o (going_by d p' next (applied + 1) (ltb 0 d.script.count)) q' o'
       unfolding turned_of queue_of out_of
       taken-turn = rw due (going-is, offered ∙ ap (λ (b : Board). apply_in b e.action q) shorter-is, told)

@@ -1,28 +1,17 @@
--- A board whose panel is held as arrays, put together; and a step under way on it, as `step` has it.
-use Rattle.std.specs.Prelude.{ℕ, Bool, true, false, List, ◌≡◌, Float}
-use Rattle.audio.specs.declared.Half.TheVariants.{None as no_half}
-use Rattle.keys.specs.Keys.{ramps_of}
-use Rattle.state.specs.declared.Board.{Board}
+-- A step under way, as `step` has it, on a chip and a panel that are held apart.
+use Rattle.std.specs.Prelude.{ℕ, Bool, true, false, ◌≡◌, None}
 use Rattle.state.specs.declared.Chip.{Chip}
 use Rattle.state.specs.declared.Panel.{Panel}
 use Rattle.step.specs.Apply.{board_of}
 use Rattle.step.specs.Step.{Ready}
 use Rattle.step.specs.declared.Going.{Going}
-use Rattle.uart.specs.declared.Byte.TheVariants.{None as no_byte}
 
-abbrev pub panel_of : List ℕ → List ℕ → List ℕ → List Float → List Float → List ℕ → Panel
-panel_of acc t0 dur from to values = record { acc = acc; ramps = ramps_of t0 dur from to; values = values }
-
-abbrev pub held_of : Chip → List ℕ → List ℕ → List ℕ → List Float → List Float → List ℕ → Board
-held_of c acc t0 dur from to values = board_of c (panel_of acc t0 dur from to values)
-
--- a step under way, on a chip and a panel; what its stages found due is put in apart
-
+-- what its stages found due is put in apart
 abbrev pub going_by : Chip → Panel → ℕ → ℕ → Bool → Going
 going_by c p written applied on = record {
   board = board_of c p;
-  audio_half = no_half;
-  uart_rx = no_byte;
+  audio_half = None;
+  uart_rx = None;
   written = written;
   place = c.script.place;
   applied = applied;

@@ -1,4 +1,4 @@
--- What is worked out of the chip and the lent arrays is the record's: a push, a read, a write.
+-- What is worked out of the chip and the lent panel is the record's: a push, a read, a write.
 use mathlib.Core.Path.{◌≡◌, refl, sym, ◌∙◌, ap}
 use mathlib.Core.Bool.{Bool, true, false, cond}
 use mathlib.Core.List.{List}

@@ -8,7 +8,7 @@ use borrow.Author.Tests.{eqb-true, eqb-false, eq-eqb, ltb-true}
 use lib.Dec.{eqb, ltb}
 use lib.ListN.{length}
 use Rattle.base.specs.Moments.{clock_max}
-use Rattle.audio.specs.declared.Half.TheVariants.{None as no_half}
+use Rattle.std.specs.Prelude.{None}
 use Rattle.driver_carry.proofs.Calls.{granted, step_left}
 use Rattle.driver_carry.specs.Carry.{Agrees, told_of, step_in}
 use Rattle.driver_carry.specs.declared.Answer.{Answer}
@@ -30,7 +30,6 @@ use Rattle.step.specs.Step.{Ready, front_place, out_bytes, step_refusal, stopped
 use Rattle.step.specs.declared.Going.{Going}
 use Rattle.step.specs.declared.stages.Served.{Served}
 use Rattle.uart.specs.Uart.{queue_bytes}
-use Rattle.uart.specs.declared.Byte.TheVariants.{None as no_byte}
 use Rattle.board_words.specs.Words.{shown_in}
 use Rattle.driver_turns.specs.Held.{Goes, going_by}
 use Rattle.driver_ways.specs.Told.{told_by}
@@ -118,10 +117,10 @@ module _ (b : Board) (ws : List ℕ) (w : Whole b) (a : Agrees b ws) (cycles : �
       (refused-step b cycles look (places_in ws) queue acts (λ z. eqb-false number 0 e (sym left ∙ z)) ∙ ap (λ (n : ℕ). (stopped_of b n, (queue, acts))) left)
       (refl, rw e, refl, refl)
 
-  pub early-right : eqb number 0 ≡ true → ltb end b.chip.clock.next_due ≡ true → RightStep (moved_by b cycles) (Stepped end no_half no_byte 0) queue acts
+  pub early-right : eqb number 0 ≡ true → ltb end b.chip.clock.next_due ≡ true → RightStep (moved_by b cycles) (Stepped end None None 0) queue acts
   unfolding finished_of
   early-right e h =
-      at (moved_by b cycles) (Stepped end no_half no_byte 0) queue acts (stopped_of (moved_by b cycles) 0, (queue, acts))
+      at (moved_by b cycles) (Stepped end None None 0) queue acts (stopped_of (moved_by b cycles) 0, (queue, acts))
       (quiet_step_lem b cycles look (places_in ws) queue acts (left ∙ eqb-true number 0 e) (ltb-true end b.chip.clock.next_due h))
       (refl, refl, refl, refl)
 
@@ -181,7 +180,7 @@ module _ (b : Board) (ws : List ℕ) (w : Whole b) (a : Agrees b ws) (cycles : �
       none_is : eqb number 0 ≡ true
       none_is = eq-eqb number 0 (sym is ∙ none)
 
-      pub early-told : ltb end b.chip.clock.next_due ≡ true → (r : Outcome) → r ≡ told_by (moved_to b.chip end) (Stepped end no_half no_byte 0)
+      pub early-told : ltb end b.chip.clock.next_due ≡ true → (r : Outcome) → r ≡ told_by (moved_to b.chip end) (Stepped end None None 0)
           → RightStep (with_chip b r.chip) r.answer queue acts
       early-told h r t = subst (λ (x : Outcome). RightStep (with_chip b x.chip) x.answer queue acts) (sym t) (early-right none_is h)
 
@@ -192,13 +191,13 @@ module _ (b : Board) (ws : List ℕ) (w : Whole b) (a : Agrees b ws) (cycles : �
         pub turns-ready : Goes (length queue) (length acts) (start_of s)
         turns-ready = subst (λ (x : Served). Goes (length queue) (length acts) (start_of x)) (sym served) (served-goes none_is h)
 
-        pub served-told : (t : Taken) (p : Panel) (q o : List ℕ) → (going_by t.chip p t.written t.applied t.on, (q, o)) ≡ runs s.chip.script.count look (start_of s, (queue, acts))
+        pub served-told : (t : Taken) (p : Panel) (q o : List ℕ) → (going_by t.chip p t.written t.applied false, (q, o)) ≡ runs s.chip.script.count look (start_of s, (queue, acts))
             → (next : ℕ) → next ≡ next_event t.chip → (r : Outcome) → r ≡ told_by (due_at t.chip next) (Stepped t.chip.clock.cycles s.audio_half s.uart_rx t.applied)
             → RightStep (board_of r.chip p) r.answer q o
         served-told t p q o e next m r told =
             subst (λ (x : Outcome). RightStep (board_of x.chip p) x.answer q o) (sym told)
             (subst
-            (λ (x : Served). (going_by t.chip p t.written t.applied t.on, (q, o)) ≡ runs x.chip.script.count look (start_of x, (queue, acts))
+            (λ (x : Served). (going_by t.chip p t.written t.applied false, (q, o)) ≡ runs x.chip.script.count look (start_of x, (queue, acts))
             → RightStep (board_of (due_at t.chip next) p) (Stepped t.chip.clock.cycles x.audio_half x.uart_rx t.applied) q o)
             (sym served)
-            (λ f. served-right none_is h t.chip p t.written t.applied t.on q o next f m) e)
+            (λ f. served-right none_is h t.chip p t.written t.applied false q o next f m) e)

@@ -1,4 +1,4 @@
--- The records of a driver that holds the chip by value and the panel's arrays in place: what a record makes of the chip and answers, where the chip alone tells.
+-- The records of a driver that holds the chip by value and the panel in place: what a record makes of the chip and answers, where the chip alone tells.
 use Rattle.std.specs.Prelude.{ℕ, ◌+◌, ◌*◌, cond, List, ltb, set}
 use Rattle.base.specs.Moments.{clock_max}
 use Rattle.base.specs.Refusals.{FULL, TIME}

@@ -1,4 +1,4 @@
-// Pushes, reads, writes and steps on a board that is known to be whole, so that nothing is tested: `driver_known` chooses between them. The chip goes by value, the panel's arrays stay where they are, lent;
+// Pushes, reads, writes and steps on a board that is known to be whole, so that nothing is tested: `driver_known` chooses between them. The chip goes by value, the panel stays where it is, lent;
 // each function has one caller, so that the compiler puts all of them into one and holds the chip field by field.
 #![tactic(auto)]
 
@@ -28,10 +28,7 @@ pub struct Outcome {
 pub fn told(c: Chip, answer: Answer) -> Outcome
     ensures { result ≡ told_by c answer }
 {
-    Outcome {
-        chip: c,
-        answer: answer,
-    }
+    Outcome { chip: c, answer }
 }
 
 pub fn push(mut c: Chip, script: &mut [u64], time: u64, action: Action) -> Outcome

@@ -5,24 +5,17 @@ ghost use Rattle.state.specs.declared.Board.{Board};
 ghost use Rattle.step.specs.Step.{out_bytes};
 ghost use Rattle.uart.specs.Uart.{queue_bytes};
 ghost use Rattle.driver_carry.specs.Carry.{Agrees, stepped, step_in};
-ghost use Rattle.driver_turns.specs.Held.{held_of};
+ghost use Rattle.step.specs.Apply.{board_of};
 
 use crate::{Outcome, told};
-use audio::Half;
 use driver_carry::Answer;
 use driver_turns::all_due;
-use state::Chip;
+use state::{Chip, Panel};
 use step::{past_limit, serve};
-use uart::Byte;
 
 pub fn step(
     mut c: Chip,
-    acc: &[u64; 41],
-    t0: &mut [u64; 41],
-    dur: &mut [u32; 41],
-    from: &mut [f32; 41],
-    to: &mut [f32; 41],
-    values: &mut [u16; 16],
+    panel: &mut Panel,
     cycles: u64,
     queue: &mut [u8],
     script: &[u64],
@@ -30,8 +23,8 @@ pub fn step(
 ) -> Outcome
     ghost b: { Board }
     requires whole { Whole b × Agrees b script.now × (length queue.old ≡ queue_bytes) × (length acts.old ≡ out_bytes) }
-    requires before { held_of c acc.now t0.old dur.old from.old to.old values.old ≡ b }
-    ensures { (held_of result.chip acc.now t0.new dur.new from.new to.new values.new ≡ (stepped b cycles queue.old script.now acts.old).board)
+    requires before { board_of c panel.old ≡ b }
+    ensures { (board_of result.chip panel.new ≡ (stepped b cycles queue.old script.now acts.old).board)
         × (result.answer ≡ (stepped b cycles queue.old script.now acts.old).answer)
         × (queue.new ≡ (step_in b cycles queue.old script.now acts.old).1.0)
         × (acts.new ≡ (step_in b cycles queue.old script.now acts.old).1.1) }
@@ -47,8 +40,8 @@ pub fn step(
             c,
             Answer::Stepped {
                 clock: end,
-                audio: Half::None,
-                byte: Byte::None,
+                audio: None,
+                byte: None,
                 applied: 0,
             },
         );
@@ -57,7 +50,7 @@ pub fn step(
     c = s.chip;
     let audio = s.audio_half;
     let byte = s.uart_rx;
-    let t = all_due(c, acc, t0, dur, from, to, values, queue, script, acts);
+    let t = all_due(c, panel, queue, script, acts);
     c = t.chip;
     let next = c.next_event();
     c.clock.next_due = next;

@@ -1,9 +1,10 @@
 -- The seven encoders' contacts as bits: A of encoder i is bit 2 i of `encs_closed`, B the next.
-use mathlib.Core.Path.{◌≡◌}
+use mathlib.Core.Path.{◌≡◌, refl}
 use mathlib.Core.Bool.{Bool, true, false, cond}
 use mathlib.Core.List.{List}
-use Prim.Native.Nat.{ℕ, zero, suc, ◌+◌, ◌*◌, ◌/◌, ◌^◌, ◌≤◌, ◌<◌}
+use Prim.Native.Nat.{ℕ, zero, suc, ◌+◌, ◌*◌, ◌/◌, ◌%◌, ◌^◌, ◌≤◌, ◌<◌}
 use native.Mathlib.Nat.{div-div-eq-div-mul}
+use native.Mathlib.Numerals.{add-one}
 use native.Mathlib.Omega.{arith}
 use lib.Dec.{eqb}
 use lib.Pow.{pow-add}
@@ -48,3 +49,39 @@ unfolding encs_closed
 contact-bit es i h =
     let q : encs_closed es ≡ packed (contact_bits es) 7 = omega arith in
     rw q (packed-bits (contact_bits es) 7 i (λ k. two-bits (enc_of es k).state) h)
+
+-- ---- put together by a loop: of the first n encoders
+
+unfoldable pub closed_to : List Enc → ℕ → ℕ
+closed_to es zero = 0
+closed_to es (suc n) = closed_to es n + contact_bits es n * 2 ^ (2 * n)
+
+module _ (es : List Enc) where
+  two : (k : ℕ) → contact_bits es k ≤ 3
+  two k = two-bits (enc_of es k).state
+
+  pub closed-none : 0 ≡ closed_to es 0
+  unfolding closed_to
+  closed-none = refl
+
+  pub closed-fits : (i : ℕ) → i < 7 → closed_to es i + contact_bits es i * 2 ^ (2 * i) < 16384
+  unfolding closed_to
+  closed-fits zero h = omega (arith, two 0)
+  closed-fits (suc zero) h = omega (arith, two 0, two 1)
+  closed-fits (suc (suc zero)) h = omega (arith, two 0, two 1, two 2)
+  closed-fits (suc (suc (suc zero))) h = omega (arith, two 0, two 1, two 2, two 3)
+  closed-fits (suc (suc (suc (suc zero)))) h = omega (arith, two 0, two 1, two 2, two 3, two 4)
+  closed-fits (suc (suc (suc (suc (suc zero))))) h = omega (arith, two 0, two 1, two 2, two 3, two 4, two 5)
+  closed-fits (suc (suc (suc (suc (suc (suc zero)))))) h = omega (arith, two 0, two 1, two 2, two 3, two 4, two 5, two 6)
+  closed-fits (suc (suc (suc (suc (suc (suc (suc i))))))) h = absurd (omega arith)
+
+  pub closed_more : (i : ℕ) → i < 7 → closed_to es i + contact_bits es i * 2 ^ (2 * i) % 2 ^ 32 ≡ closed_to es (i + 1)
+  unfolding closed_to
+  closed_more i h =
+      let f = closed-fits i h in
+      let m : contact_bits es i * 2 ^ (2 * i) % 2 ^ 32 ≡ contact_bits es i * 2 ^ (2 * i) = omega (arith, f) in
+      rw (add-one, m)
+
+  pub closed_all : closed_to es 7 ≡ encs_closed es
+  unfolding closed_to encs_closed
+  closed_all = omega arith

@@ -130,34 +130,41 @@ pub fn irq_enabled<'a>(core: u32, n: u8, icfg: &'a [u32], icfg1: &'a [u32]) -> b
 // ---- the choice ---------------------------------------------------------------
 
 // The interrupt to take and its priority.
-#[derive(Clone, Copy)]
-pub enum Choice {
-    Of { irq: u8, prio: u8 },
-    None,
+#[derive(Clone, Copy, Debug, PartialEq, Eq)]
+pub struct Choice {
+    pub irq: u8,
+    pub prio: u8,
 }
 
-impl Choice {
-    // The source comes after those considered before, so it needs a higher priority than theirs.
-    fn considered(self, bank: &[u32], n: u8, raised: bool) -> Choice
-        requires { length bank.now ≡ bank_words }
-        ensures { result ≡ considered bank.now n raised self }
+// A walk over the sources by one bank: the best so far.
+#[derive(Clone, Copy)]
+struct Walk<'a> {
+    bank: &'a [u32],
+    best: Option<Choice>,
+}
+
+impl<'a> Walk<'a> {
+    // The source comes after those walked before, so it needs a higher priority than theirs.
+    #[tactic(auto, unfolding(crate::specs::Choice::considered))]
+    fn source(self, n: u8, raised: bool) -> Walk<'a>
+        requires { length self.bank.now ≡ bank_words }
+        ensures bank { result.bank ≡ self.entry.bank }
+        ensures best { result.best ≡ considered self.entry.bank.now n raised self.entry.best }
     {
         if !raised {
             return self;
         }
-        let nib = nibble(bank, n);
+        let nib = nibble(self.bank, n);
         if nib & 1 == 0 {
             return self;
         }
-        let p = (nib / 2) as u8;
-        match self {
-            Choice::Of { irq, prio } => {
-                if prio < p {
-                    return Choice::Of { irq: n, prio: p };
-                }
-                Choice::Of { irq, prio }
-            }
-            Choice::None => Choice::Of { irq: n, prio: p },
+        let prio = (nib / 2) as u8;
+        match self.best {
+            Some(best) if prio <= best.prio => self,
+            _ => Walk {
+                bank: self.bank,
+                best: Some(Choice { irq: n, prio }),
+            },
         }
     }
 }
@@ -203,7 +210,7 @@ impl Pending {
     }
 
     // Core 0's choice.
-    pub fn pending_irq<'a>(self, icfg: &'a [u32], icfg1: &'a [u32]) -> Choice
+    pub fn pending_irq<'a>(self, icfg: &'a [u32], icfg1: &'a [u32]) -> Option<Choice>
         requires { (length icfg.now ≡ bank_words) × (length icfg1.now ≡ bank_words) }
         ensures { result ≡ choice_of self 0 icfg.now icfg1.now }
     {
@@ -211,67 +218,74 @@ impl Pending {
     }
 
     // The pending enabled source of the highest priority for a core, the earliest on a tie.
-    pub fn pending_irq_for<'a>(self, core: u32, icfg: &'a [u32], icfg1: &'a [u32]) -> Choice
+    pub fn pending_irq_for<'a>(self, core: u32, icfg: &'a [u32], icfg1: &'a [u32]) -> Option<Choice>
         requires { (length icfg.now ≡ bank_words) × (length icfg1.now ≡ bank_words) }
         ensures { result ≡ choice_of self core icfg.now icfg1.now }
     {
         if !self.any_pending() {
-            return Choice::None;
+            return None;
         }
         self.chosen(core, bank(core, icfg, icfg1))
     }
 
     // The sources in the order that decides a tie.
-    fn chosen(self, core: u32, bank: &[u32]) -> Choice
+    #[tactic(auto, unfolding(crate::specs::Choice::walked, crate::specs::Choice::chosen_of))]
+    fn chosen(self, core: u32, bank: &[u32]) -> Option<Choice>
         requires { length bank.now ≡ bank_words }
         ensures { result ≡ chosen_of self core bank.now }
     {
-        let first = self.devices(core, bank, Choice::None);
-        let second = self.timers(core, bank, first);
-        self.latched(core, bank, second)
+        let start = Walk { bank, best: None };
+        let first = self.devices(core, start);
+        let second = self.timers(core, first);
+        self.latched(core, second).best
     }
 
     // The exception, which core 0 alone sees, TIMER5, the tick and the serial blocks.
-    fn devices(self, core: u32, bank: &[u32], best: Choice) -> Choice
-        requires { length bank.now ≡ bank_words }
-        ensures { result ≡ walked core bank.now (devices self) best }
+    #[tactic(auto, unfolding(crate::specs::Choice::walked))]
+    fn devices<'a>(self, core: u32, walk: Walk<'a>) -> Walk<'a>
+        requires { length walk.bank.now ≡ bank_words }
+        ensures bank { result.bank ≡ walk.entry.bank }
+        ensures best { result.best ≡ walked core walk.entry.bank.now (devices self) walk.entry.best }
     {
-        best.considered(bank, IRQ_EXC, (core == 0) & self.exc)
-            .considered(bank, IRQ_TIMER5, self.t5)
-            .considered(bank, IRQ_OS_TICK, self.tick)
-            .considered(bank, IRQ_SPI1, self.spi1)
-            .considered(bank, IRQ_SARADC, self.adc)
-            .considered(bank, IRQ_SPI2, self.spi2)
-            .considered(bank, IRQ_UART1, self.uart)
+        walk.source(IRQ_EXC, (core == 0) & self.exc)
+            .source(IRQ_TIMER5, self.t5)
+            .source(IRQ_OS_TICK, self.tick)
+            .source(IRQ_SPI1, self.spi1)
+            .source(IRQ_SARADC, self.adc)
+            .source(IRQ_SPI2, self.spi2)
+            .source(IRQ_UART1, self.uart)
     }
 
     // Timers 0 to 3, and audio where CON0 lets it through.
-    fn timers(self, core: u32, bank: &[u32], best: Choice) -> Choice
-        requires { length bank.now ≡ bank_words }
-        ensures { result ≡ walked core bank.now (timers self) best }
+    #[tactic(auto, unfolding(crate::specs::Choice::walked))]
+    fn timers<'a>(self, core: u32, walk: Walk<'a>) -> Walk<'a>
+        requires { length walk.bank.now ≡ bank_words }
+        ensures bank { result.bank ≡ walk.entry.bank }
+        ensures best { result.best ≡ walked core walk.entry.bank.now (timers self) walk.entry.best }
     {
-        best.considered(bank, IRQ_TMR0, self.tmr0)
-            .considered(bank, IRQ_TMR1, self.tmr1)
-            .considered(bank, IRQ_TMR2, self.tmr2)
-            .considered(bank, IRQ_TMR3, self.tmr3)
-            .considered(bank, IRQ_ALNK0, self.audio_on & self.audio)
+        walk.source(IRQ_TMR0, self.tmr0)
+            .source(IRQ_TMR1, self.tmr1)
+            .source(IRQ_TMR2, self.tmr2)
+            .source(IRQ_TMR3, self.tmr3)
+            .source(IRQ_ALNK0, self.audio_on & self.audio)
     }
 
     // Eight bits of the latch have an interrupt; mostly none of them is set.
-    fn latched(self, core: u32, bank: &[u32], best: Choice) -> Choice
-        requires { length bank.now ≡ bank_words }
-        ensures { result ≡ walked core bank.now (latched self) best }
+    fn latched<'a>(self, core: u32, walk: Walk<'a>) -> Walk<'a>
+        requires { length walk.bank.now ≡ bank_words }
+        ensures bank { result.bank ≡ walk.entry.bank }
+        ensures best { result.best ≡ walked core walk.entry.bank.now (latched self) walk.entry.best }
     {
         if self.ilat % 256 == 0 {
-            return best;
+            return walk;
         }
-        best.considered(bank, 120, self.ilat & 0x01 != 0)
-            .considered(bank, 121, self.ilat & 0x02 != 0)
-            .considered(bank, 122, self.ilat & 0x04 != 0)
-            .considered(bank, 123, self.ilat & 0x08 != 0)
-            .considered(bank, 124, self.ilat & 0x10 != 0)
-            .considered(bank, 125, self.ilat & 0x20 != 0)
-            .considered(bank, 126, self.ilat & 0x40 != 0)
-            .considered(bank, 127, self.ilat & 0x80 != 0)
+        walk.source(120, self.ilat & 0x01 != 0)
+            .source(121, self.ilat & 0x02 != 0)
+            .source(122, self.ilat & 0x04 != 0)
+            .source(123, self.ilat & 0x08 != 0)
+            .source(124, self.ilat & 0x10 != 0)
+            .source(125, self.ilat & 0x20 != 0)
+            .source(126, self.ilat & 0x40 != 0)
+            .source(127, self.ilat & 0x80 != 0)
     }
 }

@@ -19,11 +19,10 @@ use Rattle.times.specs.Clocks.{ramp_cycles}
 use Rattle.times.specs.declared.RampTime.{RampTime}
 use Rattle.times.specs.declared.RampTime.TheVariants.{Press, Release, Pressure}
 use Rattle.times.proofs.Exact.{ramp-short}
-use Rattle.keys.specs.Keys.{is_down, ramp_of, with_ramp, toggled, turned_ramps, vel_written, landing_of, press_of, release_of, pressure_of}
+use Rattle.keys.specs.Keys.{Pressed, is_down, ramp_of, with_ramp, toggled, turned_ramps, vel_written, landing_of, press_of, release_of, pressure_of}
 use Rattle.base.specs.Bits.{has_bit}
 use Rattle.keys.specs.Facts.{KeysOk, RampsOk, Sized, RampsShort}
 use Rattle.keys.specs.declared.Keys.{Keys}
-use Rattle.keys.specs.declared.Pressed.{Pressed}
 use Rattle.keys.specs.declared.Ramps.{Ramps}
 
 -- within 01's rates every force can be worked out

@@ -11,7 +11,6 @@ use Rattle.times.specs.declared.RampTime.{RampTime}
 use Rattle.times.specs.declared.RampTime.TheVariants.{Press, Release, Pressure}
 use Rattle.keys.specs.declared.Keys.{Keys}
 use Rattle.keys.specs.declared.Ramps.{Ramps}
-use Rattle.keys.specs.declared.Pressed.{Pressed}
 
 abbrev pub keys_new : Keys
 keys_new = record { down = 0; vel = 100 }
@@ -54,6 +53,11 @@ goal_of k id down = cond down (landing_of k id) zero32
 
 abbrev pub time_of : Bool → RampTime
 time_of down = cond down Press Release
+
+-- what a key's press or release makes of both
+pub record Pressed : Type 0 where
+  pub keys : Keys
+  pub ramps : Ramps
 
 abbrev pub toggled : Keys → ℕ → Keys
 toggled k id = record { down = bit_xor k.down (2 ^ id); vel = k.vel }

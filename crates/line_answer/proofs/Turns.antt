@@ -1,15 +1,14 @@
 -- Texts that loops put part by part.
 use mathlib.Core.Path.{◌≡◌, refl, sym, ◌∙◌, ap}
 use mathlib.Core.List.{List, [], ◌++◌}
-use Prim.Native.Nat.{ℕ, suc, ◌+◌, ◌-◌, ◌≤◌, ◌<◌}
+use Prim.Native.Nat.{ℕ, ◌+◌, ◌≤◌, ◌<◌}
 use native.Mathlib.Numerals.{add-one}
-use native.Mathlib.Omega.{arith}
 use lib.ListN.{length, get_or, drop, drop_of_length-le}
 use lib.Seq.{drop-cons}
 use Rattle.text.proofs.After.{Put, then}
 use Rattle.text.specs.Putting.{place_after_all, put_all}
 use Rattle.line_answer.specs.Answers.{light_text, lights_text}
-use Rattle.line_answer.specs.Forms.{mark_text, marks_text, nth_of, next_of}
+use Rattle.line_answer.specs.Forms.{form_text, mark_of, mark_text, numbers_behind}
 
 -- what is left to put at `at` ends as all of it would have, from `to` on
 abbrev pub Left : List ℕ → ℕ → List ℕ → List ℕ → ℕ → List ℕ → Type 0
@@ -40,29 +39,30 @@ ended before all out rest to at e l = record {
   bytes = sym (ap (λ (r : List ℕ). put_all out at r) e) ∙ l.1;
 }
 
--- ---- the marks of a form
+-- ---- a form
 
-module _ (marks numbers : List ℕ) (i k : ℕ) where
-  pub marks-more :
-      i < length marks →
-      marks_text (drop i marks) k numbers
-      ≡ mark_text (get_or marks i 0) (nth_of numbers k) ++ marks_text (drop (i + 1) marks) (next_of k (get_or marks i 0)) numbers
-  unfolding marks_text
-  marks-more h = rw (drop-cons marks i 0 h, add-one i)
+module _ (form left : List ℕ) (i : ℕ) where
+  pub form-more :
+      i < length form →
+      form_text (drop i form) left
+      ≡ mark_text (mark_of (get_or form i 0)) (get_or left 0 0)
+      ++ form_text (drop (i + 1) form) (numbers_behind left (mark_of (get_or form i 0)))
+  unfolding form_text
+  form-more h = rw (drop-cons form i 0 h, add-one i)
 
-  pub marks-done : length marks ≤ i → marks_text (drop i marks) k numbers ≡ []
-  unfolding marks_text
-  marks-done h = rw (drop_of_length-le marks h)
+  pub form-done : length form ≤ i → form_text (drop i form) left ≡ []
+  unfolding form_text
+  form-done h = rw (drop_of_length-le form h)
 
 -- ---- the lights
 
 module _ (lights : List ℕ) (id : ℕ) where
   pub lights-more :
-      id < 41 →
-      lights_text (41 - id) id lights ≡ light_text id (get_or lights id 0) ++ lights_text (41 - (id + 1)) (id + 1) lights
+      id < length lights →
+      lights_text id (drop id lights) ≡ light_text id (get_or lights id 0) ++ lights_text (id + 1) (drop (id + 1) lights)
   unfolding lights_text
-  lights-more h = let more : 41 - id ≡ suc (41 - (id + 1)) = omega (arith, h) in rw more
+  lights-more h = rw (drop-cons lights id 0 h, add-one id)
 
-  pub lights-done : 41 ≤ id → lights_text (41 - id) id lights ≡ []
+  pub lights-done : length lights ≤ id → lights_text id (drop id lights) ≡ []
   unfolding lights_text
-  lights-done h = let none : 41 - id ≡ 0 = omega (arith, h) in rw none
+  lights-done h = rw (drop_of_length-le lights h)

@@ -1,138 +1,155 @@
 -- What a line asks, by the page of calls: its name, then a number for each of its types, and no word more.
-use Rattle.std.specs.Prelude.{ℕ, ◌+◌, ◌%◌, ◌^◌, Bool, true, false, cond, List, eqb, ltb, leb, length, replicate}
+use Rattle.std.specs.Prelude.{ℕ, Bool, true, false, cond, List, ltb, replicate, Option, Some, None, unwrap_or}
+use Rattle.std.specs.Bool.{then_some}
+use Rattle.std.specs.Option.{option_map, option_and_then}
+use Rattle.std.specs.Str.{bytes_eq}
 use Rattle.names.specs.Names.{key_id_of, enc_id_of}
-use Rattle.names.specs.declared.Id.{Id}
-use Rattle.names.specs.declared.Id.TheVariants.{Of, None}
-use Rattle.text.specs.Ascii.{bytes}
+use Rattle.records.specs.declared.Action.{Action}
+use Rattle.records.specs.declared.Action.TheVariants as action
 use Rattle.text.specs.HexBytes.{unhexed_answer, unhexed_bytes}
 use Rattle.text.specs.Numerals.{decimal_in}
 use Rattle.text.specs.Putting.{first_of}
-use Rattle.text.specs.Spans.{bytes_in, is_passed_over}
-use Rattle.text.specs.declared.Number.{Number}
-use Rattle.text.specs.declared.Number.TheVariants.{Is, Not}
-use Rattle.text.specs.declared.Unhexed.{Unhexed}
-use Rattle.text.specs.declared.Unhexed.TheVariants.{Bytes, Not as NoBytes}
-use Rattle.line_ask.specs.Lists.{byte_at, find_from}
-use Rattle.line_ask.specs.Numbers.{typed_of}
-use Rattle.line_ask.specs.WordsIn.{words_of, rest_of}
+use Rattle.text.specs.Spans.{bytes_in, is_passed_over, word_at}
+use Rattle.text.specs.declared.Span.{Span}
+use Rattle.line_ask.specs.Numbers.{u32_of, u16_of, u8_of, flag_of, hex_of, signed_of, one_in, two_in, three_in}
+use Rattle.text.specs.Tables.{found}
+use Rattle.line_ask.specs.WordsIn.{behind, is_none}
 use Rattle.line_ask.specs.declared.Ask.{Ask}
-use Rattle.line_ask.specs.declared.lists.Found.{Found}
-use Rattle.line_ask.specs.declared.words_in.Words.{Words}
-use Rattle.line_ask.specs.Calls.{ask_push, ask_apply, ask_set, ask_port, ask_key_id, ask_enc_id, ask_cycle_ticks, ask_port_write, ask_named, ask_no_name, ask_unknown, ask_long, ask_nothing}
+use Rattle.line_ask.specs.declared.Ask.TheVariants as ask
+use Rattle.line_ask.specs.declared.PortAsk.{PortAsk}
+use Rattle.line_ask.specs.declared.PortAsk.TheVariants as port
+use Rattle.line_ask.specs.declared.Setting.{Setting}
+use Rattle.line_ask.specs.declared.Setting.TheVariants as setting
+use Rattle.line_ask.specs.declared.calls.Act.{Act}
+use Rattle.line_ask.specs.declared.calls.Act.TheVariants as act
+use Rattle.line_ask.specs.declared.calls.Call.{Call}
+use Rattle.line_ask.specs.declared.calls.Call.TheVariants as call
+use Rattle.line_ask.specs.declared.calls.PortCall.{PortCall}
+use Rattle.line_ask.specs.declared.calls.PortCall.TheVariants as port_call
+use Rattle.line_ask.specs.declared.calls.Set.{Set}
+use Rattle.line_ask.specs.declared.calls.Set.TheVariants as set
+use Rattle.line_ask.specs.declared.calls.TheConstants.{CALLS, ACTIONS, SETTINGS, PORT_CALLS}
 
--- ---- the calls, with the types of their numbers
+-- ---- the names
 
-unfoldable pub call_names : List ℕ
-call_names = bytes "step        w-- read        x-- write       xx- tick        --- led         --- state       --- room        --- ms          --- nexttick    --- pending     --- cycles_of   w-- irq         d-- enabled     db- idle        --- spi1off     --- srbyte      b-- usb         ww- wdt         w-- spi1        ddf spi2        ddf new         w-- reset       --- push        --- apply       --- set         --- p33         --- keyid       --- encid       --- "
+unfoldable pub call_named : List ℕ → Option Call
+call_named name = found (λ row. bytes_eq row.0.now name) CALLS
 
-unfoldable pub setting_names : List ℕ
-setting_names = bytes "cycle_ticks w-- room_cap    w-- skip_idle   f-- in_isr      f-- exc         f-- spi2        f-- "
+unfoldable pub act_named : List ℕ → Option Act
+act_named name = found (λ row. bytes_eq row.0.now name) ACTIONS
 
-unfoldable pub port_names : List ℕ
-port_names = bytes "write       xx- read        x-- event       --- reg         hf- same        --- snap        --- sum         --- keep        --- ms          b-- new         --- reset       b-- "
+unfoldable pub set_named : List ℕ → Option Set
+set_named name = found (λ row. bytes_eq row.0.now name) SETTINGS
 
-unfoldable pub action_names : List ℕ
-action_names = bytes "midi        b-- key         bf- enc         bs- adc         bh- vel         b-- pressure    bb- "
+unfoldable pub port_named : List ℕ → Option PortCall
+port_named name = found (λ row. bytes_eq row.0.now name) PORT_CALLS
 
--- ---- what is asked
+-- what takes no number
+abbrev pub alone : {A : Type 0} → A → Span → Option A
+alone a w = then_some (is_none w) a
 
--- a call's number, its place in its list and its numbers, the first two also cut to what a call takes
-abbrev pub made_ask : ℕ → ℕ → ℕ → ℕ → ℕ → Ask
-made_ask call kind n m l = record {
-  call = call;
-  kind = kind;
-  n = n;
-  m = m;
-  l = l;
-  a = n % 2 ^ 32;
-  v = m % 2 ^ 32;
-  b = n % 2 ^ 8;
-  c = m % 2 ^ 8;
-}
+-- ---- actions
 
-abbrev pub alone_ask : ℕ → ℕ → Ask
-alone_ask call n = made_ask call call n 0 0
+-- the numbers of an action
+unfoldable pub acted : Act → List ℕ → Span → Option Action
+acted act.Midi line w = option_map action.Midi (one_in u8_of line w)
+acted act.Key line w = option_map (λ p. action.Key p.0 p.1) (two_in u8_of flag_of line w)
+acted act.Enc line w = option_map (λ p. action.Enc p.0 p.1.0) (two_in u8_of signed_of line w)
+acted act.Adc line w = option_map (λ p. action.Adc p.0 p.1) (two_in u8_of u16_of line w)
+acted act.KeyVel line w = option_map action.KeyVel (one_in u8_of line w)
+acted act.Pressure line w = option_map (λ p. action.Pressure p.0 p.1) (two_in u8_of u8_of line w)
 
--- no call
-abbrev pub no_call : Ask
-no_call = alone_ask ask_unknown 0
-
--- each number fits its type
-unfoldable pub fitted_as : ℕ → ℕ → Number → Number → Number → Ask
-fitted_as call kind (Is n) (Is m) (Is l) = made_ask call kind n m l
-fitted_as call kind (Is n) (Is m) Not = no_call
-fitted_as call kind (Is n) Not three = no_call
-fitted_as call kind Not two three = no_call
-
--- the numbers behind a name of a list whose calls are counted from `start`; no word may be left
-unfoldable pub numbered_as : List ℕ → Found → ℕ → List ℕ → Words → Ask
-numbered_as list f start line w =
-    cond (leb (length list) f.at) no_call
-    (cond (eqb w.four.from w.four.to)
-    (fitted_as
-    (start + f.k % 64)
-    f.k
-    (typed_of line w.one (byte_at list (f.at + 0)))
-    (typed_of line w.two (byte_at list (f.at + 1)))
-    (typed_of line w.three (byte_at list (f.at + 2))))
-    no_call)
-
-unfoldable pub listed_as : List ℕ → ℕ → List ℕ → Words → Ask
-listed_as list start line w = numbered_as list (find_from 40 0 list (bytes_in line w.verb)) start line w
-
-unfoldable pub action_in : List ℕ → Words → Ask
-action_in line w = listed_as action_names 0 line w
+unfoldable pub action_in : List ℕ → Span → Option Action
+action_in line w = option_and_then (λ a. acted a line (behind line w)) (act_named (bytes_in line w))
 
 -- an action with its time
-unfoldable pub acting_as : ℕ → Number → Ask → Ask
-acting_as call (Is t) a = cond (eqb a.call ask_unknown) a (made_ask call a.kind a.n a.m t)
-acting_as call Not a = no_call
+unfoldable pub push_in : List ℕ → Span → Option Ask
+push_in line w =
+    option_and_then (λ time. option_map (ask.Push time) (action_in line (behind line w))) (decimal_in (bytes_in line w))
+
+-- ---- `set` and the port's calls
+
+unfoldable pub set_as : Set → List ℕ → Span → Option Setting
+set_as set.CycleTicks line w = option_map setting.CycleTicks (one_in decimal_in line w)
+set_as set.RoomCap line w = option_map setting.RoomCap (one_in decimal_in line w)
+set_as set.SkipIdle line w = option_map setting.SkipIdle (one_in flag_of line w)
+set_as set.InIsr line w = option_map setting.InIsr (one_in flag_of line w)
+set_as set.Exc line w = option_map setting.Exc (one_in flag_of line w)
+set_as set.Spi2Pending line w = option_map setting.Spi2Pending (one_in flag_of line w)
+
+unfoldable pub setting_in : List ℕ → Span → Option Setting
+setting_in line w = option_and_then (λ s. set_as s line (behind line w)) (set_named (bytes_in line w))
+
+unfoldable pub port_as : PortCall → List ℕ → Span → Option PortAsk
+port_as port_call.Write line w = option_map (λ p. port.Write p.0.0 p.1.0) (two_in hex_of hex_of line w)
+port_as port_call.Read line w = option_map (λ a. port.Read a.0) (one_in hex_of line w)
+port_as port_call.Event line w = alone port.Event w
+port_as port_call.Reg line w = option_map (λ p. port.Reg p.0 p.1) (two_in u16_of flag_of line w)
+port_as port_call.Same line w = alone port.Same w
+port_as port_call.Snap line w = alone port.Snap w
+port_as port_call.Sum line w = alone port.Sum w
+port_as port_call.Keep line w = alone port.Keep w
+port_as port_call.Ms line w = option_map port.Ms (one_in u8_of line w)
+port_as port_call.New line w = alone port.New w
+port_as port_call.Reset line w = option_map port.Reset (one_in u8_of line w)
+
+unfoldable pub port_in : List ℕ → Span → Option PortAsk
+port_in line w = option_and_then (λ p. port_as p line (behind line w)) (port_named (bytes_in line w))
 
 -- ---- names
 
-unfoldable pub id_of : List ℕ → Bool → Id
+unfoldable pub id_of : List ℕ → Bool → Option ℕ
 id_of name key = cond key (key_id_of name) (enc_id_of name)
 
-unfoldable pub id_ask : Id → Ask
-id_ask (Of k) = alone_ask ask_named k
-id_ask None = alone_ask ask_no_name 0
+-- a name as pairs of hex digits
+unfoldable pub id_named : List ℕ → Bool → Option (Option ℕ)
+id_named word key =
+    option_map (λ n. id_of (first_of (unhexed_bytes word (replicate 2048 0)) n) key) (unhexed_answer word (replicate 2048 0))
 
-unfoldable pub id_bytes : Unhexed → List ℕ → Bool → Ask
-id_bytes (Bytes n) name key = id_ask (id_of (first_of name n) key)
-id_bytes NoBytes name key = no_call
-
--- one word, a name as pairs of hex digits
-unfoldable pub id_in : List ℕ → Words → Bool → Ask
-id_in line w key =
-    cond (eqb w.one.from w.one.to)
-    (id_bytes
-    (unhexed_answer (bytes_in line w.verb) (replicate 2048 0))
-    (unhexed_bytes (bytes_in line w.verb) (replicate 2048 0))
-    key)
-    no_call
+-- one word, and no word more
+unfoldable pub id_in : List ℕ → Span → Bool → Option (Option ℕ)
+id_in line w key = cond (is_none (behind line w)) (id_named (bytes_in line w) key) None
 
 -- ---- a line
 
--- the calls that do not take plain numbers alone, by their places in the list
-unfoldable pub named_as : ℕ → List ℕ → Words → Ask
-named_as k line w =
-    cond (eqb k ask_push) (acting_as ask_push (decimal_in (bytes_in line w.one)) (action_in line (rest_of (rest_of w))))
-    (cond (eqb k ask_apply) (acting_as ask_apply (Is 0) (action_in line (rest_of w)))
-    (cond (eqb k ask_set) (listed_as setting_names ask_cycle_ticks line (rest_of w))
-    (cond (eqb k ask_port) (listed_as port_names ask_port_write line (rest_of w))
-    (cond (eqb k ask_key_id) (id_in line (rest_of w) true)
-    (cond (eqb k ask_enc_id) (id_in line (rest_of w) false)
-    no_call)))))
+-- a call's numbers
+unfoldable pub called : Call → List ℕ → Span → Option Ask
+called call.Step line w = option_map ask.Step (one_in decimal_in line w)
+called call.Read line w = option_map (λ a. ask.Read a.0) (one_in hex_of line w)
+called call.Write line w = option_map (λ p. ask.Write p.0.0 p.1.0) (two_in hex_of hex_of line w)
+called call.Tick line w = alone ask.Tick w
+called call.Led line w = alone ask.Led w
+called call.State line w = alone ask.State w
+called call.Room line w = alone ask.Room w
+called call.Ms line w = alone ask.Ms w
+called call.NextTick line w = alone ask.NextTick w
+called call.Pending line w = alone ask.Pending w
+called call.CyclesOf line w = option_map ask.CyclesOf (one_in decimal_in line w)
+called call.Irq line w = option_map ask.Irq (one_in u32_of line w)
+called call.Enabled line w = option_map (λ p. ask.Enabled p.0 p.1) (two_in u32_of u8_of line w)
+called call.Idle line w = alone ask.Idle w
+called call.Spi1Off line w = alone ask.Spi1Off w
+called call.Shift line w = option_map ask.Shift (one_in u8_of line w)
+called call.Usb line w = option_map (λ p. ask.Usb p.0 p.1) (two_in decimal_in decimal_in line w)
+called call.Wdt line w = option_map ask.Wdt (one_in decimal_in line w)
+called call.Spi1 line w = option_map (λ p. ask.Spi1 p.0 p.1 p.2) (three_in u32_of u32_of flag_of line w)
+called call.Spi2 line w = option_map (λ p. ask.Spi2 p.0 p.1 p.2) (three_in u32_of u32_of flag_of line w)
+called call.New line w = option_map ask.New (one_in decimal_in line w)
+called call.Reset line w = alone ask.Reset w
+called call.Push line w = push_in line w
+called call.Apply line w = option_map ask.Apply (action_in line w)
+called call.Set line w = option_map ask.Set (setting_in line w)
+called call.Port line w = option_map ask.Port (port_in line w)
+called call.KeyId line w = option_map ask.Name (id_in line w true)
+called call.EncId line w = option_map ask.Name (id_in line w false)
 
-abbrev pub ask_by : Found → List ℕ → Words → Ask
-ask_by f line w = cond (ltb f.k ask_push) (numbered_as call_names f 0 line w) (named_as f.k line w)
+unfoldable pub call_in : List ℕ → Span → Option Ask
+call_in line w = option_and_then (λ c. called c line (behind line w)) (call_named (bytes_in line w))
 
 -- a remark or an empty line asks nothing
 unfoldable pub ask_of : List ℕ → Ask
-ask_of line =
-    cond (is_passed_over line) (alone_ask ask_nothing 0)
-    (ask_by (find_from 40 0 call_names (bytes_in line (words_of line).verb)) line (words_of line))
+ask_of line = cond (is_passed_over line) ask.Nothing (unwrap_or (call_in line (word_at line 0)) ask.Unknown)
 
 -- "A line is at most 4,096 bytes"
 unfoldable pub ask_in : List ℕ → ℕ → Ask
-ask_in room n = cond (ltb n 4097) (ask_of (first_of room n)) (alone_ask ask_long 0)
+ask_in room n = cond (ltb n 4097) (ask_of (first_of room n)) ask.TooLong

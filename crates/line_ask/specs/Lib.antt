@@ -1,5 +1,3 @@
-pub mod Calls
 pub mod WordsIn
-pub mod Lists
 pub mod Numbers
 pub mod Asks

@@ -1,96 +1,140 @@
 // Words as numbers of a type.
-ghost use Rattle.std.specs.Prelude.{◌≡◌};
-ghost use Rattle.line_ask.specs.Numbers.{typed_of, absent_of, within_of, most_of, signed_in, is_minus, negative_of};
+ghost use Rattle.std.specs.Prelude.{◌≡◌, ℕ, List, Option};
+ghost use Rattle.text.specs.Numerals.{decimal_in};
+ghost use Rattle.line_ask.specs.Numbers.{u32_of, u16_of, u8_of, flag_of, hex_of, signed_of, positive_of, negative_of, one_in, two_in, three_in};
 
-use text::{Number, Span, decimal_in, hex_in};
+use crate::words::Words;
+use text::{decimal, hex};
 
-// `-` for no word, `x` hexadecimal of 32 bits, `s` 32 bits with a sign, and unsigned decimals (`most`).
-pub fn typed(line: &[u8], w: Span, kind: u8) -> Number
-    ensures { result ≡ typed_of line.now w kind }
-{
-    if kind == b'x' {
-        return hex_in(line, w, 8);
-    }
-    if kind == b's' {
-        return signed_in(line, w);
-    }
-    if kind == b'-' {
-        return absent(w);
-    }
-    within(decimal_in(line, w), kind)
+// A number that a word stands for.
+pub trait Number: Copy {
+    ghost number_of: { List ℕ → Option Self };
+
+    fn number_of(word: &[u8]) -> Option<Self>
+        ensures { result ≡ number_of word.now };
 }
 
-fn absent(w: Span) -> Number
-    ensures { result ≡ absent_of w }
-{
-    if w.from == w.to {
-        return Number::Is(0);
-    }
-    Number::Not
-}
+impl Number for u64 {
+    ghost number_of = { decimal_in };
 
-fn within(number: Number, kind: u8) -> Number
-    ensures { result ≡ within_of number kind }
-{
-    let Number::Is(n) = number else {
-        return Number::Not;
-    };
-    if most(kind) < n {
-        return Number::Not;
-    }
-    Number::Is(n)
-}
-
-// Of 64, 32, 16 and 8 bits, of 31, and a flag.
-#[tactic(auto, unfolding(crate::specs::Numbers::most_of))]
-fn most(kind: u8) -> u64
-    ensures { result ≡ most_of kind }
-{
-    match kind {
-        b'w' => 0xffff_ffff_ffff_ffff,
-        b'd' => 0xffff_ffff,
-        b'h' => 0xffff,
-        b'b' => 0xff,
-        b'i' => 0x7fff_ffff,
-        _ => 1,
+    fn number_of(word: &[u8]) -> Option<u64> {
+        decimal(word)
     }
 }
 
-// As its bits.
-fn signed_in(line: &[u8], w: Span) -> Number
-    ensures { result ≡ signed_in line.now w }
-{
-    if is_minus(line, w.from, w.to) {
-        let behind = Span {
-            from: w.from + 1,
-            to: w.to,
+impl Number for u32 {
+    ghost number_of = { u32_of };
+
+    fn number_of(word: &[u8]) -> Option<u32> {
+        u32::try_from(decimal(word)?).ok()
+    }
+}
+
+impl Number for u16 {
+    ghost number_of = { u16_of };
+
+    fn number_of(word: &[u8]) -> Option<u16> {
+        u16::try_from(decimal(word)?).ok()
+    }
+}
+
+impl Number for u8 {
+    ghost number_of = { u8_of };
+
+    fn number_of(word: &[u8]) -> Option<u8> {
+        u8::try_from(decimal(word)?).ok()
+    }
+}
+
+// A flag, 0 or 1.
+impl Number for bool {
+    ghost number_of = { flag_of };
+
+    fn number_of(word: &[u8]) -> Option<bool> {
+        match decimal(word)? {
+            0 => Some(false),
+            1 => Some(true),
+            _ => None,
+        }
+    }
+}
+
+// A number of 32 bits in hexadecimal.
+#[derive(Clone, Copy, Debug, PartialEq, Eq)]
+pub struct Hex(pub u32);
+
+impl Number for Hex {
+    ghost number_of = { hex_of };
+
+    fn number_of(word: &[u8]) -> Option<Hex> {
+        let n = u32::try_from(hex(word, 8)?).ok()?;
+        Some(Hex(n))
+    }
+}
+
+// A number of 32 bits with a sign, as its bits.
+#[derive(Clone, Copy, Debug, PartialEq, Eq)]
+pub struct Signed(pub u32);
+
+impl Number for Signed {
+    ghost number_of = { signed_of };
+
+    fn number_of(word: &[u8]) -> Option<Signed> {
+        let [first, digits @ ..] = word else {
+            return None;
         };
-        return negative(decimal_in(line, behind));
+        if *first == b'-' {
+            return negative(decimal(digits)?);
+        }
+        positive(decimal(word)?)
     }
-    within(decimal_in(line, w), b'i')
 }
 
-fn is_minus(line: &[u8], from: usize, to: usize) -> bool
-    ensures { result ≡ is_minus line.now from to }
+#[tactic(auto, unfolding(crate::specs::Numbers::positive_of))]
+fn positive(n: u64) -> Option<Signed>
+    ensures { result ≡ positive_of n }
 {
-    if to <= from {
-        return false;
+    if 0x7fff_ffff < n {
+        return None;
     }
-    if line.len() <= from {
-        return false;
-    }
-    line[from] == b'-'
+    Some(Signed(n as u32))
 }
 
-// 2^32 less so much.
-fn negative(number: Number) -> Number
-    ensures { result ≡ negative_of number }
+// So much below 0.
+#[tactic(auto, unfolding(crate::specs::Numbers::negative_of))]
+fn negative(n: u64) -> Option<Signed>
+    ensures { result ≡ negative_of n }
 {
-    let Number::Is(n) = number else {
-        return Number::Not;
-    };
     if 0x8000_0000 < n {
-        return Number::Not;
+        return None;
     }
-    Number::Is((0x1_0000_0000 - n) % 0x1_0000_0000)
+    Some(Signed(((0x1_0000_0000 - n) % 0x1_0000_0000) as u32))
+}
+
+// The words that are left as numbers, and no word more.
+impl<'a> Words<'a> {
+    pub fn one<A: Number>(self) -> Option<A>
+        ensures { result ≡ one_in A.number_of self.entry.line.now self.entry.word }
+    {
+        if !self.next().is_empty() {
+            return None;
+        }
+        A::number_of(self.bytes())
+    }
+
+    pub fn two<A: Number, B: Number>(self) -> Option<(A, B)>
+        ensures { result ≡ two_in A.number_of B.number_of self.entry.line.now self.entry.word }
+    {
+        let a = A::number_of(self.bytes())?;
+        let b = self.next().one()?;
+        Some((a, b))
+    }
+
+    pub fn three<A: Number, B: Number, C: Number>(self) -> Option<(A, B, C)>
+        ensures { result ≡ three_in A.number_of B.number_of C.number_of self.entry.line.now self.entry.word }
+    {
+        let a = A::number_of(self.bytes())?;
+        let (b, c) = self.next().two()?;
+        Some((a, b, c))
+    }
 }

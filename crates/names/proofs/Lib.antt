@@ -1,10 +1,10 @@
 pub mod OnAnswers
 pub mod OnBytes
 pub mod OnWords
-pub mod OnRows
 pub mod OnNumbers
 pub mod OnNotes
 pub mod OnPlain
 pub mod OnTables
 pub mod Exact
 pub mod Examples
+pub mod OnRows

@@ -4,7 +4,9 @@ use mathlib.Core.Bool.{Bool, true, false, ◌&&◌, cond, false≢true}
 use mathlib.Core.Logic.{◌⊎◌, inl, inr}
 use mathlib.Core.List.Memᴰ
 use mathlib.Core.List.{List, [], ◌∷◌, ◌++◌, append-nil, Memᴰ}
-use mathlib.Core.Option.{Option, none, some, some-injective, none-ne-some}
+use Rattle.std.specs.Prelude.{Option, None, Some, option_and_then}
+use Rattle.std.specs.Option.{option_or}
+use Rattle.names.proofs.OnAnswers.{some-injective, none-ne-some}
 use Prim.Native.Nat.{ℕ, ◌+◌, ◌≤◌, ◌<◌}
 use Prim.Native.String.{String}
 use native.Mathlib.Omega.{arith}
@@ -14,7 +16,6 @@ use lib.ListN.{length, drop, drop_of_length-le}
 use lib.Seq.{drop-append_seam}
 use Rattle.base.proofs.Flags.{and_left, and_right}
 use Rattle.names.specs.Ascii.{bytes}
-use Rattle.names.specs.Answers.{and_then, or_else}
 use Rattle.names.specs.Words.{starts_with, is_word, look_up}
 use Rattle.names.specs.Numbers.{number_of, among, numbered}
 use Rattle.names.specs.Plain.{Numeral}
@@ -51,13 +52,13 @@ pub record Numbered (prefix : List ℕ) (count first : ℕ) (n : List ℕ) (i : 
   pub id : first + number ≡ i
 
 module _ (prefix : List ℕ) (count first : ℕ) where
-  pub numbered_of : (n : List ℕ) {i : ℕ} → numbered prefix count first n ≡ some i → Numbered prefix count first n i
+  pub numbered_of : (n : List ℕ) {i : ℕ} → numbered prefix count first n ≡ Some i → Numbered prefix count first n i
   unfolding numbered
   numbered_of n {i} e = go (starts_with n prefix) refl (number_of (drop (length prefix) n)) refl e
     where
       go : (t : Bool) → starts_with n prefix ≡ t → (o : Option ℕ) → number_of (drop (length prefix) n) ≡ o
-          → cond t (and_then o (among count first)) none ≡ some i → Numbered prefix count first n i
-      go true q (some k) r e =
+          → cond t (option_and_then (among count first) o) None ≡ Some i → Numbered prefix count first n i
+      go true q (Some k) r e =
           let p : (k < count) × (first + k ≡ i) = in-range count first k e in
           record {
             rest = drop (length prefix) n;
@@ -67,16 +68,16 @@ module _ (prefix : List ℕ) (count first : ℕ) where
             below = p.0;
             id = p.1;
           }
-      go true q none r e = absurd (none-ne-some i e)
+      go true q None r e = absurd (none-ne-some i e)
       go false q o r e = absurd (none-ne-some i e)
 
-  pub numbered-read : {s : List ℕ} {k : ℕ} → Numeral s k → k < count → numbered prefix count first (prefix ++ s) ≡ some (first + k)
+  pub numbered-read : {s : List ℕ} {k : ℕ} → Numeral s k → k < count → numbered prefix count first (prefix ++ s) ≡ Some (first + k)
   unfolding numbered
   numbered-read {s} {k} p h = rw (starts prefix s, drop-append_seam prefix s, numeral-read p, lt-ltb k count h)
 
 -- ---- tables
 
-pub listed_of : (table : List (String × ℕ)) (n : List ℕ) {i : ℕ} → look_up table n ≡ some i
+pub listed_of : (table : List (String × ℕ)) (n : List ℕ) {i : ℕ} → look_up table n ≡ Some i
     → (word : String) × Memᴰ (word, i) table × (n ≡ bytes word)
 unfolding look_up
 listed_of [] n {i} e = absurd (none-ne-some i e)
@@ -86,8 +87,8 @@ listed_of (entry ∷ table) n {i} e =
     Listed : List (String × ℕ) → Type 0
     Listed l = (word : String) × Memᴰ (word, i) l × (n ≡ bytes word)
 
-    go : (t : Bool) → is_word n (bytes entry.0) ≡ t → cond t (some entry.1) (look_up table n) ≡ some i
-        → (look_up table n ≡ some i → Listed table) → Listed (entry ∷ table)
+    go : (t : Bool) → is_word n (bytes entry.0) ≡ t → cond t (Some entry.1) (look_up table n) ≡ Some i
+        → (look_up table n ≡ Some i → Listed table) → Listed (entry ∷ table)
     go true q r later = (
       entry.0,
       Memᴰ.head (ap {B = String × ℕ} (λ k. (entry.0, k)) (sym (some-injective entry.1 i r))),
@@ -111,29 +112,29 @@ every-at f (first ∷ table) {entry} e m =
     go (inr k) later = later k
 
 abbrev pub gives : Option ℕ → ℕ → Bool
-gives (some j) i = eqb j i
-gives none i = false
+gives (Some j) i = eqb j i
+gives None i = false
 
-gives-some : (o : Option ℕ) (i : ℕ) → gives o i ≡ true → o ≡ some i
-gives-some (some j) i e = ap {B = Option ℕ} some (eqb-true j i e)
-gives-some none i e = absurd (false≢true e)
+gives-some : (o : Option ℕ) (i : ℕ) → gives o i ≡ true → o ≡ Some i
+gives-some (Some j) i e = ap {B = Option ℕ} Some (eqb-true j i e)
+gives-some None i e = absurd (false≢true e)
 
 pub listed-read : (table : List (String × ℕ)) → every (λ e. gives (look_up table (bytes e.0)) e.1) table ≡ true
-    → {word : String} {i : ℕ} → Memᴰ (word, i) table → look_up table (bytes word) ≡ some i
+    → {word : String} {i : ℕ} → Memᴰ (word, i) table → look_up table (bytes word) ≡ Some i
 listed-read table t {word} {i} m = gives-some (look_up table (bytes word)) i (every-at _ table t m)
 
 abbrev pub is_none : Option ℕ → Bool
-is_none (some j) = false
-is_none none = true
+is_none (Some j) = false
+is_none None = true
 
 -- what is read after a table of other words
 pub later-read : (table : List (String × ℕ)) (later : List ℕ → Option ℕ) → every (λ e. is_none (later (bytes e.0))) table ≡ true
-    → (n : List ℕ) {i : ℕ} → later n ≡ some i → or_else (look_up table n) (later n) ≡ some i
+    → (n : List ℕ) {i : ℕ} → later n ≡ Some i → option_or (look_up table n) (later n) ≡ Some i
 later-read table later t n {i} e = go (look_up table n) refl
   where
-    go : (o : Option ℕ) → look_up table n ≡ o → or_else o (later n) ≡ some i
-    go (some j) q =
+    go : (o : Option ℕ) → look_up table n ≡ o → option_or o (later n) ≡ Some i
+    go (Some j) q =
         let l = listed_of table n q in
         let z : is_none (later (bytes l.0)) ≡ true = every-at _ table t l.1 in
         absurd (false≢true (rw (← l.2, e) at z))
-    go none q = e
+    go None q = e

@@ -1,5 +1,4 @@
 pub mod Ascii
-pub mod Answers
 pub mod Told
 pub mod Words
 pub mod Numbers

@@ -1,10 +1,8 @@
 -- The ids of keys and encoders by name.
-use Rattle.std.specs.Prelude.{ℕ, List, [], ◌∷◌}
+use Rattle.std.specs.Prelude.{ℕ, List, [], ◌∷◌, Option, option_and_then}
 use Prim.Native.String.{String}
-use Rattle.std.proofs.Math.Option.{Option}
-use Rattle.names.specs.declared.Id.{Id}
+use Rattle.std.specs.Option.{option_or}
 use Rattle.names.specs.Ascii.{bytes, uppers}
-use Rattle.names.specs.Answers.{answer, or_else, and_then}
 use Rattle.names.specs.Words.{look_up}
 use Rattle.names.specs.Numbers.{numbered}
 use Rattle.names.specs.Midi.{note_number, first_note_id, key_of_number}
@@ -19,16 +17,16 @@ buttons =
 unfoldable pub key_of : List ℕ → Option ℕ
 key_of n =
     -- a button
-    or_else (look_up buttons n)
+    option_or (look_up buttons n)
     -- K0 to K40, the ids 0 to 40
-    (or_else (numbered (bytes "K") 41 0 n)
+    (option_or (numbered (bytes "K") 41 0 n)
     -- a note of the keyboard
-    (or_else (and_then (note_number n) key_of_number)
+    (option_or (option_and_then key_of_number (note_number n))
     -- N0 to N26, the ids 14 to 40
     (numbered (bytes "N") 27 first_note_id n)))
 
-unfoldable pub key_id_of : List ℕ → Id
-key_id_of name = answer (key_of (uppers name))
+unfoldable pub key_id_of : List ℕ → Option ℕ
+key_id_of name = key_of (uppers name)
 
 abbrev pub encoders : List (String × ℕ)
 encoders =
@@ -38,9 +36,9 @@ encoders =
 -- "Encoders: the source's names, K1 to K4 as 2 to 5, then ENC0 to ENC6. Anything else gives none."
 unfoldable pub enc_of : List ℕ → Option ℕ
 enc_of n =
-    or_else (look_up encoders n)
+    option_or (look_up encoders n)
     -- ENC0 to ENC6, the ids 0 to 6
     (numbered (bytes "ENC") 7 0 n)
 
-unfoldable pub enc_id_of : List ℕ → Id
-enc_id_of name = answer (enc_of (uppers name))
+unfoldable pub enc_id_of : List ℕ → Option ℕ
+enc_id_of name = enc_of (uppers name)

@@ -1,7 +1,7 @@
 -- Names that are fixed words.
-use Rattle.std.specs.Prelude.{ℕ, Bool, true, false, ◌&&◌, cond, List, [], ◌∷◌, eqb, length}
+use Rattle.std.specs.Prelude.{ℕ, Bool, true, false, ◌&&◌, cond, List, [], ◌∷◌, eqb, length, Option, None, Some}
+use denote.Ref.{Bor}
 use Prim.Native.String.{String}
-use Rattle.std.proofs.Math.Option.{Option, none, some}
 use Rattle.names.specs.Ascii.{bytes}
 
 unfoldable pub starts_with : List ℕ → List ℕ → Bool
@@ -15,5 +15,10 @@ is_word n w = eqb (length n) (length w) && starts_with n w
 
 -- the id that stands beside the name in a table; the first match wins
 unfoldable pub look_up : List (String × ℕ) → List ℕ → Option ℕ
-look_up [] n = none
-look_up (entry ∷ entries) n = cond (is_word n (bytes entry.0)) (some entry.1) (look_up entries n)
+look_up [] n = None
+look_up (entry ∷ entries) n = cond (is_word n (bytes entry.0)) (Some entry.1) (look_up entries n)
+
+-- the same of the table that the code reads, whose words are lent
+unfoldable pub find_row : List (Bor (List ℕ) × ℕ) → List ℕ → Option ℕ
+find_row [] n = None
+find_row (row ∷ rows) n = cond (is_word n row.0.now) (Some row.1) (find_row rows n)

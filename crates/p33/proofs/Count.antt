@@ -7,12 +7,15 @@ use native.Mathlib.Omega.{arith}
 use lib.ListN.{length}
 use lib.Dec.{eqb}
 use borrow.Author.Tests.{lt-ltb}
+use Rattle.std.specs.Prelude.{Option, Some, None}
 use Rattle.base.specs.Bits.{is_set}
+use Rattle.base.specs.declared.Refusal.{Refusal}
+use Rattle.base.specs.Refusals.{refused_of}
 use Rattle.p33.specs.declared.P33.{P33}
 use Rattle.p33.specs.declared.Event.{Event}
 use Rattle.p33.specs.declared.Event.TheVariants.{Wdt, Reset}
-use Rattle.p33.specs.P33.{with_event, read_of, value_at, refusal, word_of, addressed, is_read, resets, made_of, kept_of, noted, counted, access_of, access_in, stepped, transfer_of, transfer_in, with_con, written_of, written_in, write_of, write_in, reset_of, reset_in}
-use Rattle.p33.specs.Runs.{Held, Call, read, write, reset, take, reg, Said, after, run, said, answers, uncounted}
+use Rattle.p33.specs.P33.{unless_refused, port_after, with_event, read_of, value_at, refusal, word_of, addressed, is_read, resets, made_of, kept_of, noted, counted, access_of, access_in, stepped, transfer_of, transfer_in, with_con, written_of, written_in, write_of, write_in, reset_of, reset_in}
+use Rattle.p33.specs.Runs.{Held, Call, read, write, reset, take, reg, Said, refused, after, run, said, answers, uncounted}
 use Rattle.p33.proofs.Outcomes.{access-outcome, transfer-outcome, written-outcome, write-outcome, reset-outcome}
 use Rattle.p33.proofs.Snaps.{noted-count}
 
@@ -30,13 +33,22 @@ chosen : (t : Bool) {a b c d : P33} → Twins a c → Twins b d → Twins (cond 
 chosen true e f = e
 chosen false e f = f
 
-with-event : {p q : P33} (k : Event) → Twins p q → Twins (with_event p k) (with_event q k)
+-- and so does a call that is refused or not
+unless-twins : (r : Option Refusal) {a b c d : P33} → Twins a c → Twins b d → Twins (port_after (unless_refused r a) b) (port_after (unless_refused r c) d)
+unless-twins None e f = e
+unless-twins (Some refusal) e f = f
+
+unless-number : (r : Option Refusal) (a b : P33) → refused_of (unless_refused r a) ≡ refused_of (unless_refused r b)
+unless-number None a b = refl
+unless-number (Some refusal) a b = refl
+
+with-event : {p q : P33} (k : Option Event) → Twins p q → Twins (with_event p k) (with_event q k)
 with-event k t = record { same = ap (λ (r : P33). with_event r k) t.same }
 
 noted-twins : (p q : P33) (i v : ℕ) → Twins p q → Twins (noted p i v) (noted q i v)
 unfolding noted
 noted-twins p q i v t =
-    chosen (eqb i 0x80) (with-event (Wdt (is_set v 0x40)) t) (chosen (resets i v) (with-event Reset t) t)
+    chosen (eqb i 0x80) (with-event (Some (Wdt (is_set v 0x40))) t) (chosen (resets i v) (with-event (Some Reset) t) t)
 
 module _ (n : ℕ) where
   access-twins : (p : P33) (m : List ℕ) (b : ℕ) → Twins (access_of p m b) (access_of (recounted p n) m b)
@@ -88,15 +100,15 @@ module _ (p : P33) (n : ℕ) (m : List ℕ) (low : p.changed < 2 ^ 62) (low' : n
   recounted-alike (read addr) = record { ports = record { same = refl }; regs = refl; answers = refl }
   recounted-alike (write addr value) =
       record {
-        ports = rw (← same-refusal) (chosen (eqb (refusal p m) 0) (written-twins n p m addr value) (record { same = refl }));
+        ports = rw (← same-refusal) (unless-twins (refusal p m) (written-twins n p m addr value) (record { same = refl }));
         regs = rw (← same-refusal, ← written-regs n p m addr value);
-        answers = rw (← same-refusal);
+        answers = ap refused (rw (← same-refusal) (unless-number (refusal p m) _ _));
       }
   recounted-alike (reset cause) =
       record {
-        ports = rw (← same-refusal) (chosen (eqb (refusal p m) 0) (record { same = refl }) (record { same = refl }));
+        ports = rw (← same-refusal) (unless-twins (refusal p m) (record { same = refl }) (record { same = refl }));
         regs = rw (← same-refusal);
-        answers = rw (← same-refusal);
+        answers = ap refused (rw (← same-refusal) (unless-number (refusal p m) _ _));
       }
   recounted-alike take = record { ports = record { same = refl }; regs = refl; answers = refl }
   recounted-alike (reg addr rtc) = record { ports = record { same = refl }; regs = refl; answers = refl }

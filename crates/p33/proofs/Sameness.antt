@@ -1,13 +1,16 @@
 -- Two ports are the same exactly when their cores are equal; two snaps likewise.
 use Prim.Native.Nat.{ℕ, ◌<◌}
-use mathlib.Core.Path.{◌≡◌, ap, sym, ◌∙◌}
-use mathlib.Core.Bool.{Bool, true, ◌&&◌}
+use mathlib.Core.Path.{◌≡◌, refl, ap, sym, ◌∙◌}
+use mathlib.Core.Bool.{Bool, true, false, ◌&&◌, false≢true}
 use mathlib.Core.List.{List}
 use native.Mathlib.Omega.{arith}
 use lib.Dec.{eqb}
 use lib.ListN.{length, get_or}
 use lib.Seq.{ext_get_or}
+use lib.Pointwise.{pointwise, bytes_decides}
 use borrow.Author.Tests.{eq-eqb, eqb-true}
+use Rattle.std.specs.Prelude.{Result, Ok}
+use Rattle.base.specs.declared.Refusal.{Refusal}
 use Rattle.base.proofs.All.{all-at, all_of}
 use Rattle.base.proofs.Flags.{and_left, and_right}
 use Rattle.p33.specs.declared.P33.{P33}
@@ -25,6 +28,19 @@ module _ (x y : List ℕ) (ex : length x ≡ memory_bytes) (ey : length y ≡ me
 pub same-regs-all : (x y : List ℕ) → x ≡ y → same_regs x y ≡ true
 unfolding same_regs
 same-regs-all x y q = all_of (agree x y) memory_bytes (λ i h. eq-eqb (get_or x i 0) (get_or y i 0) (ap (λ (l : List ℕ). get_or l i 0) q))
+
+-- equality of two memories, as a slice's `==` says it
+pub equal_is_same : (x y : List ℕ) → length x ≡ memory_bytes → length y ≡ memory_bytes → pointwise eqb x y ≡ same_regs x y
+equal_is_same x y ex ey = go (pointwise eqb x y) refl (same_regs x y) refl
+  where
+    go : (s : Bool) → pointwise eqb x y ≡ s → (t : Bool) → same_regs x y ≡ t → pointwise eqb x y ≡ same_regs x y
+    go true e true f = e ∙ sym f
+    go true e false f = absurd (false≢true (sym f ∙ same-regs-all x y ((bytes_decides x y).0 e)))
+    go false e true f = absurd (false≢true (sym e ∙ (bytes_decides x y).1 (same-regs-exact x y ex ey f)))
+    go false e false f = e ∙ sym f
+
+ok_is : {s t : Bool} → ◌≡◌ {A = Result Bool Refusal} (Ok s) (Ok t) → s ≡ t
+ok_is e = cc
 
 -- a chain of five tests
 pub record Five (a b c d e : Bool) : Type 0 where
@@ -54,9 +70,9 @@ module _ (a : P33) (x : List ℕ) (b : P33) (y : List ℕ) where
 
   module _ (ex : length x ≡ memory_bytes) (ey : length y ≡ memory_bytes) where
     -- the flag is true exactly where the cores are equal
-    pub same-exact : (same_of a x b y).same ≡ true → core a x ≡ core b y
+    pub same-exact : same_of a x b y ≡ Ok true → core a x ≡ core b y
     unfolding same_of
-    same-exact t = go (rw (eq-eqb (length x) memory_bytes ex, eq-eqb (length y) memory_bytes ey) at t)
+    same-exact t = go (ok_is (rw (eq-eqb (length x) memory_bytes ex, eq-eqb (length y) memory_bytes ey) at t))
       where
         go : (same_record a b && same_regs x y) ≡ true → core a x ≡ core b y
         go u =
@@ -64,9 +80,9 @@ module _ (a : P33) (x : List ℕ) (b : P33) (y : List ℕ) where
             let r = same-regs-exact x y ex ey (and_right (same_record a b) (same_regs x y) u) in
             rw (eqb-true a.con b.con f.first, eqb-true a.dat b.dat f.second, eqb-true a.step b.step f.third, eqb-true a.cmd b.cmd f.fourth, eqb-true a.addr b.addr f.fifth, r)
 
-    pub same-all : core a x ≡ core b y → (same_of a x b y).same ≡ true
+    pub same-all : core a x ≡ core b y → same_of a x b y ≡ Ok true
     unfolding same_of
-    same-all q = rw (eq-eqb (length x) memory_bytes ex, eq-eqb (length y) memory_bytes ey) (core-same q)
+    same-all q = rw (eq-eqb (length x) memory_bytes ex, eq-eqb (length y) memory_bytes ey, core-same q)
 
 -- ---- snaps
 

@@ -10,10 +10,11 @@ use lib.Seq.{set-get_or}
 use borrow.Author.Tests.{eqb-true}
 use Rattle.p33.specs.declared.P33.{P33}
 use Rattle.p33.specs.declared.Snap.{Snap}
+use Rattle.std.specs.Prelude.{Option, Some}
 use Rattle.base.specs.Bits.{is_set}
 use Rattle.p33.specs.declared.Event.{Event}
 use Rattle.p33.specs.declared.Event.TheVariants.{Wdt, Reset}
-use Rattle.p33.specs.P33.{snap_of, with_event, chip_reset_in, reset_of, reset_in, write_of, write_in, noted, counted, resets, access_of, access_in, transfer_of, transfer_in, with_con, addressed, stepped, kept_of, made_of}
+use Rattle.p33.specs.P33.{port_after, snap_of, with_event, chip_reset_in, reset_of, reset_in, write_of, write_in, noted, counted, resets, access_of, access_in, transfer_of, transfer_in, with_con, addressed, stepped, kept_of, made_of}
 use Rattle.p33.specs.Sameness.{core}
 use Rattle.p33.specs.Runs.{Held, Call, read, write, reset, take, reg, after, run}
 use Rattle.p33.proofs.Outcomes.{access-outcome, transfer-outcome, written-outcome, write-outcome, reset-outcome}
@@ -38,9 +39,9 @@ then n k l m r s g h =
 
 pub noted-count : (p : P33) (i v : ℕ) → (noted p i v).changed ≡ p.changed
 unfolding noted
-noted-count p i v = go (eqb i 0x80) (resets i v) (Wdt (is_set v 0x40)) Reset
+noted-count p i v = go (eqb i 0x80) (resets i v) (Some (Wdt (is_set v 0x40))) (Some Reset)
   where
-    go : (s t : Bool) (e f : Event) → (cond s (with_event p e) (cond t (with_event p f) p)).changed ≡ p.changed
+    go : (s t : Bool) (e f : Option Event) → (cond s (with_event p e) (cond t (with_event p f) p)).changed ≡ p.changed
     go true t e f = refl
     go false true e f = refl
     go false false e f = refl
@@ -72,14 +73,14 @@ transfer-grows p m b =
     (λ _. access-grows (stepped p p.cmd p.addr) m b) (λ _. stays p.changed m)
 
 module _ (p : P33) (m : List ℕ) where
-  write-grows : (addr value : ℕ) → From p m (write_of p m addr value).port (write_in p m addr value)
+  write-grows : (addr value : ℕ) → From p m (port_after (write_of p m addr value) p) (write_in p m addr value)
   write-grows addr value =
       write-outcome (From p m) p m addr value (stays p.changed m)
       (λ _ _.
       written-outcome (From p m) p m addr value (λ _. stays p.changed m) (λ _ _. stays p.changed m) (λ _ _ _. stays p.changed m)
       (λ _ _ _. transfer-grows (with_con p value p.step) m (p.dat % 0x100)))
 
-  reset-grows : (cause : ℕ) → From p m (reset_of p m).port (reset_in p m cause)
+  reset-grows : (cause : ℕ) → From p m (port_after (reset_of p m) p) (reset_in p m cause)
   reset-grows cause =
       reset-outcome (From p m) p m cause (stays p.changed m) (λ _ _. one_more p.changed m (chip_reset_in m cause))
 

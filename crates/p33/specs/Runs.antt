@@ -2,8 +2,8 @@
 use Rattle.std.specs.Prelude.{ℕ, ◌≡◌, Bool, List, [], ◌∷◌}
 use Rattle.base.specs.Told.{Told}
 use Rattle.p33.specs.declared.P33.{P33}
-use Rattle.p33.specs.declared.Value.{Value}
-use Rattle.p33.specs.P33.{eventless, reset_of, reset_in, reg_of, read_of, write_of, write_in}
+use Rattle.base.specs.Refusals.{refused_of}
+use Rattle.p33.specs.P33.{port_after, eventless, reset_of, reset_in, reg_of, value_read, read_of, write_of, write_in}
 use Rattle.p33.specs.Told.{told_event}
 
 pub record Held : Type 0 where
@@ -22,8 +22,8 @@ pub data Call : Type 0 where
 unfoldable pub after : Call → Held → Held
 after (read addr) h = h
 after (write addr value) h =
-    record { port = (write_of h.port h.regs addr value).port; regs = write_in h.port h.regs addr value }
-after (reset cause) h = record { port = (reset_of h.port h.regs).port; regs = reset_in h.port h.regs cause }
+    record { port = port_after (write_of h.port h.regs addr value) h.port; regs = write_in h.port h.regs addr value }
+after (reset cause) h = record { port = port_after (reset_of h.port h.regs) h.port; regs = reset_in h.port h.regs cause }
 after take h = record { port = eventless h.port; regs = h.regs }
 after (reg addr rtc) h = h
 
@@ -32,19 +32,19 @@ unfoldable pub run : List Call → Held → Held
 run [] h = h
 run (c ∷ cs) h = run cs (after c h)
 
--- what a call answers, beside the port: a value, a refusal's number, an event, a register
+-- what a call answers, beside the port: a value, a refusal's number, an event, a register by its refusal's number and its value
 pub data Said : Type 0 where
   value : ℕ → Said
   refused : ℕ → Said
   event : Told → Said
-  register : Value → Said
+  register : ℕ → ℕ → Said
 
 unfoldable pub said : Call → Held → Said
 said (read addr) h = value (read_of h.port addr)
-said (write addr v) h = refused (write_of h.port h.regs addr v).refused
-said (reset cause) h = refused (reset_of h.port h.regs).refused
+said (write addr v) h = refused (refused_of (write_of h.port h.regs addr v))
+said (reset cause) h = refused (refused_of (reset_of h.port h.regs))
 said take h = event (told_event h.port.event)
-said (reg addr rtc) h = register (reg_of h.regs addr rtc)
+said (reg addr rtc) h = register (refused_of (reg_of h.regs addr rtc)) (value_read (reg_of h.regs addr rtc))
 
 -- what the calls of a list answer, in their order
 unfoldable pub answers : List Call → Held → List Said

@@ -1,10 +1,10 @@
 -- When two ports are the same, and when two snaps are.
-use Rattle.std.specs.Prelude.{ℕ, Bool, false, cond, ◌&&◌, List, eqb, length, get_or}
+use Rattle.std.specs.Prelude.{ℕ, Bool, cond, ◌&&◌, List, eqb, length, get_or, Result, Ok, Err}
 use Rattle.base.specs.AllTo.{all_to}
-use Rattle.base.specs.Refusals.{SIZE}
+use Rattle.base.specs.declared.Refusal.{Refusal}
+use Rattle.base.specs.declared.Refusal.TheVariants.{Size}
 use Rattle.p33.specs.declared.P33.{P33}
 use Rattle.p33.specs.declared.Snap.{Snap}
-use Rattle.p33.specs.declared.Compared.{Compared}
 use Rattle.p33.specs.P33.{memory_bytes}
 
 -- what sameness looks at: "con, dat, step, cmd, addr and all 2,048 registers"; neither the count nor the event
@@ -36,9 +36,9 @@ abbrev pub both_sizes : List ℕ → List ℕ → Bool
 both_sizes x y = eqb (length x) memory_bytes && eqb (length y) memory_bytes
 
 -- `same`: both lengths are tested. That the flag is true exactly where the two cores are equal is `same-exact` (proofs/Sameness)
-unfoldable pub same_of : P33 → List ℕ → P33 → List ℕ → Compared
+unfoldable pub same_of : P33 → List ℕ → P33 → List ℕ → Result Bool Refusal
 same_of a x b y =
-    cond (both_sizes x y) (record { refused = 0; same = same_record a b && same_regs x y }) (record { refused = SIZE; same = false })
+    cond (both_sizes x y) (Ok (same_record a b && same_regs x y)) (Err Size)
 
 -- equality of two snaps
 abbrev pub same_snap : Snap → Snap → Bool

@@ -2,7 +2,7 @@
 // DAT at 0x13e0c.
 //
 // Lend REGS bytes and make a port of them; hand the port and the same bytes to each call, and go on with the port that it answers. A call that
-// is refused says why by document 01's number (0: done) and leaves port and bytes as they were.
+// is refused says why and leaves port and bytes as they were.
 //
 // A transfer writes a byte to DAT and sets CON bit 4; the byte that comes back is read from DAT. Each access is three transfers with CON bit 0
 // (chip select) held: a command (bit 7 read; bits 5 and 6 the write's operation; bits 0 and 1 the address's top bits), the address's low byte,
@@ -16,11 +16,12 @@ ghost use Rattle.times.specs.Watchdog.{wdt_ms};
 ghost use Rattle.p33.specs.P33.{
   memory_bytes,
   port_new,
+  refusal,
+  unless_refused,
+  port_after,
   new_of,
   new_in,
-  zeroed,
   eventless,
-  with_event,
   taken_of,
   reset_of,
   reset_in,
@@ -34,7 +35,6 @@ ghost use Rattle.p33.specs.P33.{
   write_in,
   written_of,
   written_in,
-  next_step,
   transfer_of,
   transfer_in,
   access_of,
@@ -44,21 +44,20 @@ ghost use Rattle.p33.specs.P33.{
   noted,
   counted,
 };
-ghost use Rattle.p33.specs.Sameness.{same_snap, same_record, same_regs, same_of};
+ghost use Rattle.p33.specs.Sameness.{same_snap, same_record, same_of};
 
-use base::COUNT_MAX;
+use base::{COUNT_MAX, Refusal};
 
-// What the last transfer asks of the chip.
-#[derive(Clone, Copy)]
+// What a register write asks of the chip.
+#[derive(Clone, Copy, Debug, PartialEq, Eq)]
 pub enum Event {
-    None,
     // WDT_CON written: with `fed`, its count cleared.
     Wdt { fed: bool },
     // PR_PWR bit 4: a chip reset.
     Reset,
 }
 
-#[derive(Clone, Copy)]
+#[derive(Clone, Copy, Debug, Default, PartialEq, Eq)]
 pub struct P33 {
     pub con: u32,
     pub dat: u32,
@@ -68,38 +67,20 @@ pub struct P33 {
     pub addr: u16,
     // register writes that changed a value
     pub changed: u64,
-    pub event: Event,
+    // what the last of them asks of the chip, until it is taken
+    pub event: Option<Event>,
 }
 
 // The port in brief: con, dat, step, cmd, addr, changed. Equal snaps of ONE port at two times say that con, dat, step, cmd, addr and all
 // registers are as they were. They say nothing of the event: a feed of a running watchdog leaves an event and an equal snap. And of two ports they
 // say nothing at all: their registers may differ. To compare ports use `same`.
-#[derive(Clone, Copy)]
+#[derive(Clone, Copy, Debug, PartialEq, Eq)]
 pub struct Snap(pub u32, pub u32, pub u8, pub u8, pub u16, pub u64);
 
-// What a call answers that can be refused.
-#[derive(Clone, Copy)]
-pub struct Done {
-    pub refused: u8,
-    pub port: P33,
-}
-
-#[derive(Clone, Copy)]
+#[derive(Clone, Copy, Debug, PartialEq, Eq)]
 pub struct Taken {
-    pub event: Event,
+    pub event: Option<Event>,
     pub port: P33,
-}
-
-#[derive(Clone, Copy)]
-pub struct Value {
-    pub refused: u8,
-    pub value: u8,
-}
-
-#[derive(Clone, Copy)]
-pub struct Compared {
-    pub refused: u8,
-    pub same: bool,
 }
 
 pub const CON: u32 = 0x13e08;
@@ -115,43 +96,18 @@ pub const PR_PWR: u16 = 0xa0;
 // The register memory: the main domain at 0, the RTC domain at 0x400.
 pub const REGS: usize = 0x800;
 
-// Refusals: a lent length differs; `changed` is 2^62 or more.
-pub const SIZE: u8 = base::SIZE as u8;
-
-pub const COUNT: u8 = base::COUNT as u8;
-
 impl P33 {
-    fn default() -> Self
-        ensures { result ≡ port_new }
-    {
-        let none = Event::None;
-        P33 {
-            con: 0,
-            dat: 0,
-            step: 0,
-            cmd: 0,
-            addr: 0,
-            changed: 0,
-            event: none,
-        }
-    }
-
     // A port at power-on, its memory zeroed.
-    pub fn new(regs: &mut [u8]) -> Done
+    #[tactic(auto, unfolding(crate::specs::P33::new_of, crate::specs::P33::new_in))]
+    pub fn new(regs: &mut [u8]) -> Result<Self, Refusal>
         ensures value { result ≡ new_of regs.old }
         ensures memory { regs.new ≡ new_in regs.old }
     {
         if regs.len() != REGS {
-            return Done {
-                refused: SIZE,
-                port: P33::default(),
-            };
+            return Err(Refusal::Size);
         }
-        zero(regs);
-        Done {
-            refused: 0,
-            port: P33::default(),
-        }
+        regs.fill(0);
+        Ok(P33::default())
     }
 
     // The watchdog's period for `WDT_CON` bits 0 to 3, in ms.
@@ -161,52 +117,40 @@ impl P33 {
         times::wdt_ms(con)
     }
 
-    fn with_event(self, event: Event) -> Self
-        ensures { result ≡ with_event self event }
-    {
-        P33 {
-            con: self.con,
-            dat: self.dat,
-            step: self.step,
-            cmd: self.cmd,
-            addr: self.addr,
-            changed: self.changed,
-            event: event,
-        }
-    }
-
     // The register write the chip acts on, if the last access made one.
     pub fn take_event(self) -> Taken
         ensures { result ≡ taken_of self }
     {
-        let event = self.event;
-        let none = Event::None;
         Taken {
-            event: event,
-            port: self.with_event(none),
+            event: self.event,
+            port: P33 {
+                event: None,
+                ..self
+            },
         }
     }
 
-    // A chip reset: the cause in `RST_SRC` (0x04 the watchdog, 0x40 PR_PWR), the watchdog stopped, the port idle.
-    pub fn chip_reset(self, regs: &mut [u8], cause: u8) -> Done
-        ensures { (result ≡ reset_of self regs.old) × (regs.new ≡ reset_in self regs.old cause) }
+    // What turns a write or a reset away.
+    fn accepts(self, regs: &[u8]) -> Result<(), Refusal>
+        ensures { result ≡ unless_refused (refusal self regs.now) tt }
     {
         if regs.len() != REGS {
-            return Done {
-                refused: SIZE,
-                port: self,
-            };
+            return Err(Refusal::Size);
         }
         if COUNT_MAX <= self.changed {
-            return Done {
-                refused: COUNT,
-                port: self,
-            };
+            return Err(Refusal::Count);
         }
-        Done {
-            refused: 0,
-            port: self.chip_reset_whole(regs, cause),
-        }
+        Ok(())
+    }
+
+    // A chip reset: the cause in `RST_SRC` (0x04 the watchdog, 0x40 PR_PWR), the watchdog stopped, the port idle.
+    #[tactic(auto, unfolding(crate::specs::P33::reset_of, crate::specs::P33::reset_in))]
+    pub fn chip_reset(self, regs: &mut [u8], cause: u8) -> Result<Self, Refusal>
+        ensures value { result ≡ reset_of self regs.old }
+        ensures memory { regs.new ≡ reset_in self regs.old cause }
+    {
+        self.accepts(regs)?;
+        Ok(self.chip_reset_whole(regs, cause))
     }
 
     // The reset itself, for callers that know the memory's length and the count.
@@ -217,33 +161,25 @@ impl P33 {
     {
         regs[RST_SRC as usize] = cause;
         regs[WDT_CON as usize] = 0;
-        let none = Event::None;
         P33 {
             con: 0,
             dat: 0,
             step: 0,
-            cmd: self.cmd,
-            addr: self.addr,
             changed: self.changed + 1,
-            event: none,
+            event: None,
+            ..self
         }
     }
 
     // A register's value as the firmware last left it (`rtc`: the RTC domain's bank).
-    pub fn reg(regs: &[u8], addr: u16, rtc: bool) -> Value
+    #[tactic(auto, unfolding(crate::specs::P33::reg_of))]
+    pub fn reg(regs: &[u8], addr: u16, rtc: bool) -> Result<u8, Refusal>
         ensures { result ≡ reg_of regs.now addr rtc }
     {
         if regs.len() != REGS {
-            return Value {
-                refused: SIZE,
-                value: 0,
-            };
+            return Err(Refusal::Size);
         }
-        let i = P33::index(addr, rtc);
-        Value {
-            refused: 0,
-            value: regs[i],
-        }
+        Ok(regs[P33::index(addr, rtc)])
     }
 
     fn index(addr: u16, rtc: bool) -> usize
@@ -271,6 +207,7 @@ impl P33 {
     }
 
     // Every word but CON reads DAT.
+    #[tactic(auto, unfolding(crate::specs::P33::read_of))]
     pub fn read(self, addr: u32) -> u32
         ensures { result ≡ read_of self addr }
     {
@@ -282,28 +219,17 @@ impl P33 {
     }
 
     // Every word but DAT writes CON.
-    pub fn write(self, regs: &mut [u8], addr: u32, value: u32) -> Done
-        ensures { (result ≡ write_of self regs.old addr value) × (regs.new ≡ write_in self regs.old addr value) }
+    #[tactic(auto, unfolding(crate::specs::P33::write_of, crate::specs::P33::write_in))]
+    pub fn write(self, regs: &mut [u8], addr: u32, value: u32) -> Result<Self, Refusal>
+        ensures value { result ≡ write_of self regs.old addr value }
+        ensures memory { regs.new ≡ write_in self regs.old addr value }
     {
-        if regs.len() != REGS {
-            return Done {
-                refused: SIZE,
-                port: self,
-            };
-        }
-        if COUNT_MAX <= self.changed {
-            return Done {
-                refused: COUNT,
-                port: self,
-            };
-        }
-        Done {
-            refused: 0,
-            port: self.write_whole(regs, addr, value),
-        }
+        self.accepts(regs)?;
+        Ok(self.write_whole(regs, addr, value))
     }
 
     // The write itself, for callers that know the memory's length and the count.
+    #[tactic(auto, unfolding(crate::specs::P33::written_of, crate::specs::P33::written_in))]
     fn write_whole(mut self, regs: &mut [u8], addr: u32, value: u32) -> Self
         requires { (length regs.old ≡ memory_bytes) × (self.changed < 2 ^ 62) }
         ensures value { result ≡ written_of self regs.old addr value }
@@ -326,30 +252,32 @@ impl P33 {
     }
 
     // A byte across: the command, the address's low byte, the data, and nothing after that. What comes back is left in DAT.
+    #[tactic(auto, unfolding(crate::specs::P33::transfer_of, crate::specs::P33::transfer_in))]
     fn transfer(mut self, regs: &mut [u8], b: u8) -> Self
         requires { (length regs.old ≡ memory_bytes) × (self.changed < 2 ^ 62) }
         ensures value { result ≡ transfer_of self regs.old b }
         ensures memory { regs.new ≡ transfer_in self regs.old b }
     {
         let step = self.step;
-        self.step = saturating_inc(step);
+        self.step = step.saturating_add(1);
         self.dat = 0;
-        if step == 0 {
-            self.cmd = b;
-            self.addr = ((b % 4) as u16) * 0x100;
-            return self;
+        match step {
+            0 => {
+                self.cmd = b;
+                self.addr = ((b % 4) as u16) * 0x100;
+                self
+            }
+            1 => {
+                self.addr |= b as u16;
+                self
+            }
+            2 => self.access(regs, b),
+            _ => self,
         }
-        if step == 1 {
-            self.addr = self.addr | (b as u16);
-            return self;
-        }
-        if step == 2 {
-            return self.access(regs, b);
-        }
-        self
     }
 
     // The third transfer: a read's value comes back, or a write is done to its half of the memory.
+    #[tactic(auto, using(crate::proofs::Halves::rtc_access, crate::proofs::Halves::rtc_access_in, crate::proofs::Halves::main_access, crate::proofs::Halves::main_access_in), unfolding(crate::specs::P33::access_of, crate::specs::P33::access_in))]
     fn access(mut self, regs: &mut [u8], b: u8) -> Self
         requires { (length regs.old ≡ memory_bytes) × (self.changed < 2 ^ 62) }
         ensures value { result ≡ access_of self regs.old b }
@@ -372,14 +300,15 @@ impl P33 {
     }
 
     // The event of a value written at a place of the memory: the RTC half's register 0x80 is no watchdog.
-    fn noted(self, i: usize, v: u8) -> Self
+    #[tactic(auto, unfolding(crate::specs::P33::noted))]
+    fn noted(mut self, i: usize, v: u8) -> Self
         ensures { result ≡ noted self i v }
     {
         if i == WDT_CON as usize {
-            return self.with_event(Event::Wdt { fed: v & 0x40 != 0 });
-        }
-        if (i == PR_PWR as usize) & (v & 0x10 != 0) {
-            return self.with_event(Event::Reset);
+            let fed = v & 0x40 != 0;
+            self.event = Some(Event::Wdt { fed });
+        } else if (i == PR_PWR as usize) & (v & 0x10 != 0) {
+            self.event = Some(Event::Reset);
         }
         self
     }
@@ -394,48 +323,26 @@ impl P33 {
             return self;
         }
         half[i] = v;
-        self.changed = self.changed + 1;
+        self.changed += 1;
         self
     }
 }
 
-fn zero(regs: &mut [u8])
-    ensures { regs.new ≡ zeroed regs.old }
-{
-    let mut i: usize = 0;
-    while i < regs.len() {
-        regs[i] = 0;
-        i = i + 1;
-    }
-}
-
-fn saturating_inc(step: u8) -> u8
-    ensures { result ≡ next_step step }
-{
-    if step == 255 {
-        return 255;
-    }
-    step + 1
-}
-
 // What a command makes of a register's value and the byte that came.
+#[tactic(auto, unfolding(crate::specs::P33::operation_of))]
 fn operation(cmd: u8, was: u8, b: u8) -> u8
     ensures { result ≡ operation_of cmd was b }
 {
-    let op = cmd / 32 % 4;
-    if op == 0 {
-        return b;
+    match cmd / 32 % 4 {
+        0 => b,
+        1 => was | b,
+        2 => was & b,
+        _ => was ^ b,
     }
-    if op == 1 {
-        return was | b;
-    }
-    if op == 2 {
-        return was & b;
-    }
-    was ^ b
 }
 
 // What a register keeps of a value: the bits that act read 0.
+#[tactic(auto, unfolding(crate::specs::P33::kept_of))]
 fn kept(i: usize, v: u8) -> u8
     ensures { result ≡ kept_of i v }
 {
@@ -454,102 +361,75 @@ fn kept(i: usize, v: u8) -> u8
 pub fn same_snap(a: Snap, b: Snap) -> bool
     ensures { result ≡ same_snap a b }
 {
-    (a.0 == b.0) & (a.1 == b.1) & (a.2 == b.2) & (a.3 == b.3) & (a.4 == b.4) & (a.5 == b.5)
+    a == b
 }
 
 // Two ports are the same when con, dat, step, cmd, addr and all registers agree; the count and the event play no part.
-pub fn same(a: P33, regs_a: &[u8], b: P33, regs_b: &[u8]) -> Compared
+#[tactic(auto, using(crate::proofs::Sameness::equal_is_same), unfolding(crate::specs::Sameness::same_of))]
+pub fn same(a: P33, regs_a: &[u8], b: P33, regs_b: &[u8]) -> Result<bool, Refusal>
     ensures { result ≡ same_of a regs_a.now b regs_b.now }
 {
-    if regs_a.len() != REGS {
-        return Compared {
-            refused: SIZE,
-            same: false,
-        };
+    if regs_a.len() != REGS || regs_b.len() != REGS {
+        return Err(Refusal::Size);
     }
-    if regs_b.len() != REGS {
-        return Compared {
-            refused: SIZE,
-            same: false,
-        };
-    }
-    Compared {
-        refused: 0,
-        same: same_record(a, b) & same_regs(regs_a, regs_b),
-    }
+    Ok(same_record(a, b) & (regs_a == regs_b))
 }
 
 fn same_record(a: P33, b: P33) -> bool
     ensures { result ≡ same_record a b }
 {
-    (a.con == b.con) & (a.dat == b.dat) & (a.step == b.step) & (a.cmd == b.cmd) & (a.addr == b.addr)
-}
-
-fn same_regs(a: &[u8], b: &[u8]) -> bool
-    requires { (length a.now ≡ memory_bytes) × (length b.now ≡ memory_bytes) }
-    ensures { result ≡ same_regs a.now b.now }
-{
-    let mut ok = true;
-    let mut i: usize = 0;
-    while i < REGS {
-        ok = ok & (a[i] == b[i]);
-        i = i + 1;
-    }
-    ok
+    (a.con, a.dat, a.step, a.cmd, a.addr) == (b.con, b.dat, b.step, b.cmd, b.addr)
 }
 
 // ---- the record lent: each is the call of the same name above, with the port updated where the caller keeps it
 
-pub fn write_in_place(p: &mut P33, regs: &mut [u8], addr: u32, value: u32) -> u8
-    ensures { (result ≡ (write_of p.old regs.old addr value).refused)
-        × (p.new ≡ (write_of p.old regs.old addr value).port)
-        × (regs.new ≡ write_in p.old regs.old addr value) }
+#[tactic(auto, unfolding(crate::specs::P33::write_of))]
+pub fn write_in_place(p: &mut P33, regs: &mut [u8], addr: u32, value: u32) -> Result<(), Refusal>
+    ensures value { result ≡ unless_refused (refusal p.old regs.old) tt }
+    ensures port { p.new ≡ port_after (write_of p.old regs.old addr value) p.old }
+    ensures memory { regs.new ≡ write_in p.old regs.old addr value }
 {
-    let done = P33::write(*p, regs, addr, value);
-    *p = done.port;
-    done.refused
+    *p = p.write(regs, addr, value)?;
+    Ok(())
 }
 
-pub fn chip_reset_in_place(p: &mut P33, regs: &mut [u8], cause: u8) -> u8
-    ensures { (result ≡ (reset_of p.old regs.old).refused)
-        × (p.new ≡ (reset_of p.old regs.old).port)
-        × (regs.new ≡ reset_in p.old regs.old cause) }
+#[tactic(auto, unfolding(crate::specs::P33::reset_of))]
+pub fn chip_reset_in_place(p: &mut P33, regs: &mut [u8], cause: u8) -> Result<(), Refusal>
+    ensures value { result ≡ unless_refused (refusal p.old regs.old) tt }
+    ensures port { p.new ≡ port_after (reset_of p.old regs.old) p.old }
+    ensures memory { regs.new ≡ reset_in p.old regs.old cause }
 {
-    let done = P33::chip_reset(*p, regs, cause);
-    *p = done.port;
-    done.refused
+    *p = p.chip_reset(regs, cause)?;
+    Ok(())
 }
 
-pub fn take_event_in_place(p: &mut P33) -> Event
-    ensures { (result ≡ p.old.event) × (p.new ≡ eventless p.old) }
+pub fn take_event_in_place(p: &mut P33) -> Option<Event>
+    ensures value { result ≡ p.old.event }
+    ensures port { p.new ≡ eventless p.old }
 {
-    let taken = P33::take_event(*p);
-    *p = taken.port;
-    taken.event
+    p.event.take()
 }
 
 // Bridges: by value outside, through the lent record inside.
 
-pub fn write_through(p: P33, regs: &mut [u8], addr: u32, value: u32) -> Done
-    ensures { (result ≡ write_of p regs.old addr value) × (regs.new ≡ write_in p regs.old addr value) }
+#[tactic(auto, unfolding(crate::specs::P33::write_of))]
+pub fn write_through(p: P33, regs: &mut [u8], addr: u32, value: u32) -> Result<P33, Refusal>
+    ensures value { result ≡ write_of p regs.old addr value }
+    ensures memory { regs.new ≡ write_in p regs.old addr value }
 {
     let mut q = p;
-    let refused = write_in_place(&mut q, regs, addr, value);
-    Done {
-        refused: refused,
-        port: q,
-    }
+    write_in_place(&mut q, regs, addr, value)?;
+    Ok(q)
 }
 
-pub fn chip_reset_through(p: P33, regs: &mut [u8], cause: u8) -> Done
-    ensures { (result ≡ reset_of p regs.old) × (regs.new ≡ reset_in p regs.old cause) }
+#[tactic(auto, unfolding(crate::specs::P33::reset_of))]
+pub fn chip_reset_through(p: P33, regs: &mut [u8], cause: u8) -> Result<P33, Refusal>
+    ensures value { result ≡ reset_of p regs.old }
+    ensures memory { regs.new ≡ reset_in p regs.old cause }
 {
     let mut q = p;
-    let refused = chip_reset_in_place(&mut q, regs, cause);
-    Done {
-        refused: refused,
-        port: q,
-    }
+    chip_reset_in_place(&mut q, regs, cause)?;
+    Ok(q)
 }
 
 pub fn take_event_through(p: P33) -> Taken
@@ -557,8 +437,5 @@ pub fn take_event_through(p: P33) -> Taken
 {
     let mut q = p;
     let event = take_event_in_place(&mut q);
-    Taken {
-        event: event,
-        port: q,
-    }
+    Taken { event, port: q }
 }

@@ -13,14 +13,13 @@ ghost use Rattle.panel.specs.Led.{
 
 use crate::map::Map;
 use crate::pins::Pins;
-use base::most;
 
 // A key's LED lit for dt more.
 fn charge_id(acc: &mut [u64; 41], id: u8, dt: u64)
     ensures { acc.new ≡ charge_id acc.old id dt }
 {
     if id < 41 {
-        acc[id as usize] = std::num::wrapping_add_u64(acc[id as usize], dt);
+        acc[id as usize] = acc[id as usize].wrapping_add(dt);
     }
 }
 
@@ -29,9 +28,7 @@ fn charge_rows(acc: &mut [u64; 41], ids: &[u8; 66], lines: u16, col: usize, dt: 
     requires { col < 11 }
     ensures { acc.new ≡ charge_rows ids.now lines col dt acc.old 4 }
 {
-    let mut row: usize = 0;
-    while row < 4 {
-        row = row + 1;
+    for row in 1..5 {
         if (lines >> row) % 2 == 1 {
             charge_id(acc, ids[row * 11 + col], dt);
         }
@@ -42,12 +39,9 @@ fn charge_rows(acc: &mut [u64; 41], ids: &[u8; 66], lines: u16, col: usize, dt: 
 pub fn charge(acc: &mut [u64; 41], map: Map, lines: u16, latched: u16, dt: u64)
     ensures { acc.new ≡ charged_of map lines latched dt acc.old }
 {
-    let mut col: usize = 0;
-    while col < 11 {
-        let c = col;
-        col = col + 1;
-        if (latched >> c) % 2 == 0 {
-            charge_rows(acc, &map.ids, lines, c, dt);
+    for col in 0..11 {
+        if (latched >> col) % 2 == 0 {
+            charge_rows(acc, &map.ids, lines, col, dt);
         }
     }
 }
@@ -72,7 +66,7 @@ fn flush(acc: &mut [u64; 41], map: Map, pins: Pins)
 }
 
 // The light that is taken: each LED's lit cycles and the span that they are out of. The times then begin at 0.
-#[derive(Clone, Copy)]
+#[derive(Clone, Copy, Debug, PartialEq, Eq)]
 pub struct Taken {
     pub pins: Pins,
     pub lit: [u64; 41],
@@ -90,7 +84,7 @@ pub fn led_take(acc: [u64; 41], map: Map, pins: Pins, now: u64) -> Taken
     let q = p.led_taken(now);
     Taken {
         pins: q,
-        lit: lit,
-        span: most(now - pins.led_since, 1),
+        lit,
+        span: (now - pins.led_since).max(1),
     }
 }

@@ -4,7 +4,7 @@ ghost use Rattle.panel.specs.Map.{fm1_map, id_at};
 
 // The id at row * 11 + column, of which those above 40 are no key; and for each encoder its contact A, then B, as column and row. A contact
 // outside the matrix closes nothing.
-#[derive(Clone, Copy)]
+#[derive(Clone, Copy, Debug, PartialEq, Eq)]
 pub struct Map {
     pub ids: [u8; 66],
     pub contacts: [u8; 28],

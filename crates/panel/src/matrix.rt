@@ -28,10 +28,8 @@ fn keys_in(ids: &[u8; 66], down: u64, col: usize) -> u32
     ensures { result ≡ keys_in ids.now down col }
 {
     let mut rows: u32 = 0;
-    let mut row: usize = 0;
-    while row < 6 {
-        rows = rows | base::when(is_down(down, ids[row * 11 + col]), row_bit(row as u8));
-        row = row + 1;
+    for row in 0..6 {
+        rows |= base::when(is_down(down, ids[row * 11 + col]), row_bit(row as u8));
     }
     rows
 }
@@ -42,11 +40,9 @@ fn contacts_in(contacts: &[u8; 28], closed: u32, col: usize) -> u32
     ensures { result ≡ contacts_in contacts.now closed col }
 {
     let mut rows: u32 = 0;
-    let mut k: usize = 0;
-    while k < 14 {
+    for k in 0..14 {
         let here = (contacts[k * 2] == (col as u8)) & ((closed >> k) % 2 == 1);
-        rows = rows | base::when(here, row_bit(contacts[k * 2 + 1]));
-        k = k + 1;
+        rows |= base::when(here, row_bit(contacts[k * 2 + 1]));
     }
     rows
 }
@@ -56,10 +52,8 @@ pub fn closed_rows(map: Map, down: u64, closed: u32, latched: u16) -> u32
     ensures { result ≡ closed_rows map down closed latched }
 {
     let mut rows: u32 = 0;
-    let mut col: usize = 0;
-    while col < 11 {
-        rows = rows | closed_in(map, down, closed, latched, col);
-        col = col + 1;
+    for col in 0..11 {
+        rows |= closed_in(map, down, closed, latched, col);
     }
     rows
 }

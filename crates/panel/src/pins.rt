@@ -24,7 +24,7 @@ ghost use Rattle.panel.specs.Pins.{
 };
 
 #[repr(C)]
-#[derive(Clone, Copy)]
+#[derive(Clone, Copy, Debug, PartialEq, Eq)]
 pub struct Pins {
     // the last change of the LED lines or the latch; when the light was last taken; the time in the present state that is not yet charged
     pub led_last: u64,
@@ -72,17 +72,9 @@ impl Pins {
         Pins {
             led_last: self.led_last,
             led_since: self.led_since,
-            led_pend: 0,
-            pa_out: 0,
-            ph_out: 0,
-            pa_dir: 0,
-            pa_pu: 0,
-            pa_hd0: 0,
-            pa_hd: 0,
             sr_shift: self.sr_shift,
             sr_latched: self.sr_latched,
-            led_lines: 0,
-            led_latched: 0,
+            ..Pins::new()
         }
     }
 

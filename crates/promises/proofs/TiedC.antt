@@ -14,9 +14,9 @@ use seplogic.Ra.Ura.{Ura}
 use lib.ListN.{length}
 use prog.Memory.{Memory}
 use prog.Routine.{Routine}
+use Rattle.std.specs.Prelude.{Option, Some, None}
 use Rattle.audio.specs.Told.{told_half}
 use Rattle.audio.specs.declared.Half.{Half}
-use Rattle.audio.specs.declared.Half.TheVariants as half
 use Rattle.base.specs.Bits.{when_of}
 use Rattle.board.specs.Calls.{read_call}
 use Rattle.board_runner.specs.Calls.{any_call, cap_call, choice_call, cycles_call, dropped_call, enabled_call, exc_call, idle_call, isr_call, led_call, ms_call, next_due_call, queued_call, room_call, shift_call, skip_call, spi1_call, spi1_off_call, spi2_call, spi2_flag_call, tick_call, ticks_call, usb_call, wdt_call}
@@ -35,10 +35,7 @@ use Rattle.capi_answers.specs.declared.Chosen.{Chosen}
 use Rattle.capi_answers.specs.declared.Reading.{Reading}
 use Rattle.irq.specs.Told.{told_choice}
 use Rattle.irq.specs.declared.Choice.{Choice}
-use Rattle.irq.specs.declared.Choice.TheVariants as choice
 use Rattle.regs.specs.Told.{told_value}
-use Rattle.regs.specs.declared.reads.Value.{Value}
-use Rattle.regs.specs.declared.reads.Value.TheVariants as value
 use Rattle.script.proofs.Words.{action-fits}
 use Rattle.script.specs.Words.{action_of, words_at, places_in}
 use Rattle.script.specs.declared.Entry.{Entry}
@@ -47,7 +44,6 @@ use Rattle.step.specs.Step.{step_of}
 use Rattle.step.specs.declared.Stepped.{Stepped}
 use Rattle.uart.specs.Told.{told_byte}
 use Rattle.uart.specs.declared.Byte.{Byte}
-use Rattle.uart.specs.declared.Byte.TheVariants as byte
 use Rattle.promises.specs.Boundary.{from_reading, from_chosen, from_moved, from_advanced}
 use Rattle.promises.specs.Refusals.{Answer, of_done, of_ticked, of_number, of_flag, of_reading, of_written, of_lit, of_chosen, of_stepped, Tied}
 use Rattle.promises.specs.Run.{Held, advance, apply, push, read, write, chip_reset, tick, tick_room, next_tick_due, idle, any_pending, irq_enabled, pending_irq, pending_irq_for, led_take, spi1_start, spi2_start, spi1_irq_off, sr_shift_byte, ms, cycle_of_ms, midi_queued, midi_dropped, set_cycle_ticks, set_skip_idle, set_in_isr, set_room_cap, set_exc_pending, set_spi2_pending, set_usb, set_wdt, with_board, made_refused, made}
@@ -93,27 +89,27 @@ reading-back : (r : BoardReading) → from_reading (reading_of r) ≡ of_reading
 unfolding read_of told_value
 reading-back r = go r.value
   where
-    go : (v : Value) → from_reading (read_of r.board r.refused v) ≡ Answer.value r.refused (told_value v)
-    go (value.Is n) = refl
-    go value.None = refl
+    go : (v : Option ℕ) → from_reading (read_of r.board r.refused v) ≡ Answer.value r.refused (told_value v)
+    go (Some n) = refl
+    go None = refl
 
 chosen-back : (c : BoardChosen) → from_chosen (chosen_of c) ≡ of_chosen c
 unfolding of_choice told_choice
 chosen-back c = go c.choice
   where
-    go : (x : Choice) → from_chosen (of_choice c.refused x) ≡ Answer.choice c.refused (told_choice x)
-    go (choice.Of irq prio) = refl
-    go choice.None = refl
+    go : (x : Option Choice) → from_chosen (of_choice c.refused x) ≡ Answer.choice c.refused (told_choice x)
+    go (Some x) = refl
+    go None = refl
 
-half_back : (h : Half) → from_moved (of_half h) ≡ told_half h
+half_back : (h : Option Half) → from_moved (of_half h) ≡ told_half h
 unfolding of_half told_half
-half_back (half.Done addr words) = refl
-half_back half.None = refl
+half_back (Some h) = refl
+half_back None = refl
 
-byte-back : (x : Byte) → from_moved (of_byte x) ≡ told_byte x
+byte-back : (x : Option Byte) → from_moved (of_byte x) ≡ told_byte x
 unfolding of_byte told_byte
-byte-back (byte.Got addr b) = refl
-byte-back byte.None = refl
+byte-back (Some x) = refl
+byte-back None = refl
 
 flag-back : (t : Bool) → is_yes (when_of t 1) ≡ t
 flag-back true = refl

@@ -1,6 +1,6 @@
 -- Demand 3 on the board: "Over any run of calls from a new board, MIDI bytes leave in the first accepted step at or after their due time, once, in order, within 01's bounds, and none is
 -- unaccounted for." The laws are those of crate `midi_laws`; here is what they are laws of.
-use Rattle.std.specs.Prelude.{cond, List, [], ◌∷◌, ◌++◌, ◌≡◌, ℕ, zero, suc, ◌+◌, ◌*◌, ◌-◌, ◌%◌, ◌≤◌, ◌<◌, eqb, length}
+use Rattle.std.specs.Prelude.{cond, List, [], ◌∷◌, ◌++◌, ◌≡◌, ℕ, zero, suc, ◌+◌, ◌*◌, ◌-◌, ◌%◌, ◌≤◌, ◌<◌, eqb, length, Option, Some, None}
 use Rattle.board.specs.Steps.{apply_call}
 use Rattle.midi_laws.specs.Laws.{in_at, out_at, handed, offered, Prompt, Bound, MidiLaws}
 use Rattle.midi_laws.specs.Machine.{final, gather}
@@ -16,7 +16,6 @@ use Rattle.step.specs.declared.Stepped.{Stepped}
 use Rattle.times.specs.Clocks.{byte_time}
 use Rattle.uart.specs.Uart.{queue_bytes, queue_of, receives}
 use Rattle.uart.specs.declared.Byte.{Byte}
-use Rattle.uart.specs.declared.Byte.TheVariants.{Got, None}
 use Rattle.promises.specs.Run.{Held, Call, advance, apply, push, read, write, chip_reset, tick, tick_room, next_tick_due, idle, any_pending, irq_enabled, pending_irq, pending_irq_for, led_take, spi1_start, spi2_start, spi1_irq_off, sr_shift_byte, ms, cycle_of_ms, midi_queued, midi_dropped, set_cycle_ticks, set_skip_idle, set_in_isr, set_room_cap, set_exc_pending, set_spi2_pending, set_usb, set_wdt, stepped, made_refused, made, exec}
 
 -- ---- the MIDI part of a board and its queue
@@ -95,8 +94,8 @@ abbrev pub offered_by : Call → Held → List ℕ
 offered_by k s = offered_in (effect_of k) s
 
 -- the byte that a step's answer hands out
-abbrev pub gave_of : Byte → List ℕ
-gave_of (Got addr b) = b ∷ []
+abbrev pub gave_of : Option Byte → List ℕ
+gave_of (Some x) = x.b ∷ []
 gave_of None = []
 
 -- an accepted step: the clock that it answers, and the byte

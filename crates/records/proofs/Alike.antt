@@ -10,14 +10,12 @@ use lib.ListN.{length, drop, length-append, length-drop}
 use lib.Seq.{take-append-le, drop-append-le}
 use Rattle.records.specs.Le.{number_at}
 use Rattle.records.specs.Layout.{is_timed, is_order, length_of, length_in, kind_in, time_in, action_in, order_in, breaks_layout, whole_kind}
-use Rattle.records.specs.Decoded.{timed_of, any_of, record_of}
+use Rattle.records.specs.Decoded.{timed_of, any_of, record_of, RecordAt, timed_at, record_at, any_at, order_at, broken_at}
 use Rattle.records.specs.declared.Action.{Action}
 use Rattle.records.specs.declared.Order.{Order}
-use Rattle.records.specs.declared.TimedAt.TheVariants.{Timed, Broken, End}
-use Rattle.records.specs.declared.RecordAt.{RecordAt}
-use Rattle.records.specs.declared.RecordAt.TheVariants.{Timed as AnyTimed, Order as AnyOrder, Broken as AnyBroken, End as AnyEnd}
 use Rattle.records.proofs.NineKinds.{known, known-longest}
 use Rattle.records.proofs.Kept.{Kept, kept, keeps}
+use Rattle.std.specs.Prelude.{Some, None, Ok, Err}
 
 -- ---- whatever follows
 
@@ -104,10 +102,9 @@ module _ (s t : List ℕ) (enough : 17 ≤ length s) where
 
 -- the same, `base` bytes further on
 abbrev pub moved : ℕ → RecordAt → RecordAt
-moved base (AnyTimed time action next) = AnyTimed time action (base + next)
-moved base (AnyOrder order next) = AnyOrder order (base + next)
-moved base (AnyBroken here) = AnyBroken (base + here)
-moved base AnyEnd = AnyEnd
+moved base (Ok (Some r)) = record_at r.body (base + r.next)
+moved base (Ok None) = Ok None
+moved base (Err b) = broken_at (base + b.at)
 
 pub record-moved : (s : List ℕ) (base at : ℕ) → record_of s (base + at) ≡ moved base (record_of s at)
 unfolding record_of timed_of
@@ -115,13 +112,13 @@ record-moved s base at =
     go (is_order (whole_kind s)) (eqb (length s) 0) (is_timed (whole_kind s)) (order_in (whole_kind s) s) (time_in s) (action_in (whole_kind s) s) (length_of (whole_kind s))
   where
     go : (o z b : Bool) (x : Order) (time : ℕ) (y : Action) (n : ℕ)
-        → cond o (AnyOrder x (base + at + n)) (any_of (cond z End (cond b (Timed time y (base + at + n)) (Broken (base + at)))))
-        ≡ moved base (cond o (AnyOrder x (at + n)) (any_of (cond z End (cond b (Timed time y (at + n)) (Broken at)))))
+        → cond o (order_at x (base + at + n)) (any_of (cond z (Ok None) (cond b (timed_at time y (base + at + n)) (broken_at (base + at)))))
+        ≡ moved base (cond o (order_at x (at + n)) (any_of (cond z (Ok None) (cond b (timed_at time y (at + n)) (broken_at at)))))
     go true z b x time y n =
         let e : base + at + n ≡ base + (at + n) = omega arith in
-        ap (λ (m : ℕ). AnyOrder x m) e
+        ap (λ (m : ℕ). order_at x m) e
     go false true b x time y n = refl
     go false false true x time y n =
         let e : base + at + n ≡ base + (at + n) = omega arith in
-        ap (λ (m : ℕ). AnyTimed time y m) e
+        ap (λ (m : ℕ). any_at time y m) e
     go false false false x time y n = refl

@@ -10,13 +10,13 @@ use lib.Dec.{eqb}
 use lib.ListN.{length}
 use Rattle.base.specs.Refusals.{RECORD}
 use Rattle.records.specs.Layout.{is_timed, is_order, length_of, kind_in, time_in, action_in, breaks_layout, whole_kind}
-use Rattle.records.specs.Decoded.{timed_of, any_of, record_of}
+use Rattle.records.specs.Decoded.{timed_of, any_of, record_of, timed_at, broken_at}
 use Rattle.records.specs.Told.{told_timed, told_record}
-use Rattle.records.specs.declared.TimedAt.TheVariants.{Timed, Broken, End}
 use Rattle.records.proofs.Kept.{Kept, kept}
 use Rattle.records.proofs.NineKinds.{known, known-sorted}
 use Rattle.records.proofs.Progress.{any-empty-end, breaks-broken}
 use Rattle.records.proofs.RoundTrip.{timed-decodes, order-decodes, any-decodes}
+use Rattle.std.specs.Prelude.{None, Ok}
 
 module _ (s : List ℕ) (at : ℕ) where
   kept-number : Kept s → (is_timed (kind_in s) ≡ true) ⊎ (is_order (kind_in s) ≡ true) → (told_record (record_of s at)).number ≡ 0
@@ -42,7 +42,7 @@ module _ (s : List ℕ) (at : ℕ) where
   unfolding told_timed timed_of
   timed-number = go (eqb (length s) 0) (is_timed (whole_kind s))
     where
-      go : (z t : Bool) → eqb (told_timed (cond z End (cond t (Timed (time_in s) (action_in (whole_kind s) s) (at + length_of (whole_kind s))) (Broken at)))).number RECORD ≡ (not z && not t)
+      go : (z t : Bool) → eqb (told_timed (cond z (Ok None) (cond t (timed_at (time_in s) (action_in (whole_kind s) s) (at + length_of (whole_kind s))) (broken_at at)))).number RECORD ≡ (not z && not t)
       go true t = refl
       go false true = refl
       go false false = refl

@@ -1,15 +1,15 @@
 -- A record keeps the layout: the five tests as facts, both ways.
-use mathlib.Core.Path.{◌≡◌, refl, subst}
+use mathlib.Core.Path.{◌≡◌, refl}
 use mathlib.Core.Bool.{Bool, true, false, ◌&&◌, ◌||◌}
 use mathlib.Core.List.{List}
 use Prim.Native.Nat.{ℕ, ◌≤◌, ◌<◌}
-use native.Mathlib.Omega.{arith}
 use borrow.Author.Tests.{lt-ltb, le-ltb, eq-eqb, ne_eqb, ltb-false, eqb-true, eqb-false, not-false}
 use lib.ListN.{length}
 use Rattle.records.specs.Le.{number_at}
 use Rattle.records.specs.Layout.{length_of, length_in, kind_in, breaks_layout, whole_kind}
-use Rattle.records.specs.Decoded.{Found}
-use Rattle.records.proofs.NineKinds.{known, known-most}
+use Rattle.records.specs.Kinds.{number_of, Found}
+use Rattle.records.specs.declared.Kind.{Kind}
+use Rattle.std.specs.Prelude.{Some, None}
 
 pub record Kept (s : List ℕ) : Type 0 where
   pub four : 4 ≤ length s
@@ -35,9 +35,9 @@ and_second true b e q = e
 and_second false b e q = cc
 
 module _ (s : List ℕ) where
-  pub broken : breaks_layout s ≡ true → Found s 0
-  unfolding whole_kind length_of
-  broken e = record { is = rw e; known = omega arith; long = omega arith }
+  pub broken : breaks_layout s ≡ true → Found s None
+  unfolding whole_kind
+  broken e = rw e
 
   pub breaks-short : length s < 4 → breaks_layout s ≡ true
   breaks-short h = rw (lt-ltb _ _ h)
@@ -73,11 +73,6 @@ module _ (s : List ℕ) where
         down = λ k. ltb-false _ _ (and_second _ _ down (eq-eqb _ _ k));
       }
 
-  pub found : Kept s → Found s (kind_in s)
+  pub found : (kind : Kind) → number_of kind ≡ kind_in s → Kept s → Found s (Some kind)
   unfolding whole_kind
-  found k =
-      record {
-        is = rw (keeps k);
-        known = known-most (known (kind_in s) k.known);
-        long = subst (λ (n : ℕ). n ≤ length s) k.exact k.long;
-      }
+  found kind e k = (rw (keeps k) e, rw (e, ← k.exact) k.long)

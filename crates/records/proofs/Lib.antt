@@ -11,5 +11,6 @@ pub mod RoundTrip
 pub mod Reencoded
 pub mod Progress
 pub mod Eight
+pub mod Found
 pub mod Alike
 mod Examples

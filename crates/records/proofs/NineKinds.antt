@@ -7,6 +7,9 @@ use borrow.Author.Tests.{eqb-true}
 use lib.Dec.{eqb, lit≤}
 use mathlib.Core.Logic.{◌⊎◌, inl, inr}
 use Rattle.records.specs.Layout.{length_of, is_timed, is_order}
+use Rattle.records.specs.Kinds.{number_of}
+use Rattle.records.specs.declared.Kind.{Kind}
+use Rattle.records.specs.declared.Kind.TheVariants.{Key, Enc, Adc, Midi, KeyVel, Pressure, Read, Write, Step}
 
 pub data Known : ℕ → Type 0 where
   is_key : Known 1
@@ -96,3 +99,27 @@ known-longest is-pressure = lit≤ tt
 known-longest is_read_lem = lit≤ tt
 known-longest is-write = lit≤ tt
 known-longest is-step = lit≤ tt
+
+-- the same of the kinds by name
+pub kind-least : (kind : Kind) → 8 ≤ length_of (number_of kind)
+unfolding length_of
+kind-least Key = lit≤ tt
+kind-least Enc = lit≤ tt
+kind-least Adc = lit≤ tt
+kind-least Midi = lit≤ tt
+kind-least KeyVel = lit≤ tt
+kind-least Pressure = lit≤ tt
+kind-least Read = lit≤ tt
+kind-least Write = lit≤ tt
+kind-least Step = lit≤ tt
+
+pub key_named : (kind : Kind) → number_of kind ≡ 1 → kind ≡ Key
+key_named Key e = refl
+key_named Enc e = absurd (omega arith)
+key_named Adc e = absurd (omega arith)
+key_named Midi e = absurd (omega arith)
+key_named KeyVel e = absurd (omega arith)
+key_named Pressure e = absurd (omega arith)
+key_named Read e = absurd (omega arith)
+key_named Write e = absurd (omega arith)
+key_named Step e = absurd (omega arith)

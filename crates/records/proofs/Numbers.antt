@@ -7,6 +7,7 @@ use native.Mathlib.Omega.{arith}
 use lib.ListN.{length, get_or, take, drop, length-drop}
 use lib.Seq.{length-take-le, take-add, drop-drop, drop-cons}
 use lib.Dec.{lit<}
+use Rattle.std.proofs.Common.{add-one}
 use Rattle.records.specs.Le.{le, unle, number_at}
 use Rattle.records.specs.Values.{AreBytes}
 
@@ -15,14 +16,10 @@ unfolding unle
 unle-append [] y = omega arith
 unle-append (b ∷ x) y = rw (unle-append x y, pow-succ', mul_assoc) (omega arith)
 
--- the number in 2k bytes is the two in its halves
-pub number-halves :
-    (k i : ℕ) (s : List ℕ) →
-    i + k ≤ length s →
-    number_at i (k + k) s ≡ number_at i k s + 256 ^ k * number_at (i + k) k s
-number-halves k i s h =
-    let long : k ≤ length (drop i s) = simp length-drop (omega arith) in
-    rw (take-add k k (drop i s), drop-drop k i s, unle-append, length-take-le k (drop i s) long)
+-- the number in some bytes by the first of them; j is the place behind it
+pub number-next : (i j k : ℕ) (s : List ℕ) → j ≡ i + 1 → i < length s → number_at i (suc k) s ≡ get_or s i 0 + 256 * number_at j k s
+unfolding unle
+number-next i j k s e h = rw (e, drop-cons s i 0 h, add-one)
 
 -- the number in one byte is the byte
 pub number-byte : (i : ℕ) (s : List ℕ) → i < length s → number_at i 1 s ≡ get_or s i 0

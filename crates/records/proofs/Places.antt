@@ -22,17 +22,17 @@ module _ {A : Type 0} where
       sets (sets (sets l i x) (i + length x) y) (i + length x + length y) z ≡ sets l i (x ++ (y ++ z))
   sets-append-two l i x y z = sets-append (sets l i x) (i + length x) y z ∙ sets-append l i x (y ++ z)
 
--- a turn of the loop that stores a number: what is left to store, from the place reached on
+-- a turn of the loop that stores a number up to the place e: what is left to store, from the place reached on
 pub put-more :
-    (l : List ℕ) (at i k n : ℕ) →
-    i < k →
-    sets (set l (at + i) (n % 256)) (at + (i + 1)) (le (k - (i + 1)) (n / 256)) ≡ sets l (at + i) (le (k - i) n)
+    (l : List ℕ) (i e n : ℕ) →
+    i < e →
+    sets (set l i (n % 256)) (i + 1) (le (e - (i + 1)) (n / 256)) ≡ sets l i (le (e - i) n)
 unfolding le
-put-more l at i k n h =
-    let e : k - i ≡ suc (k - (i + 1)) = omega arith in
-    let f : at + (i + 1) ≡ suc (at + i) = omega arith in
-    rw (e, f)
+put-more l i e n h =
+    let f : e - i ≡ suc (e - (i + 1)) = omega arith in
+    let g : i + 1 ≡ suc i = omega arith in
+    rw (f, g)
 
-pub put-done : (l : List ℕ) (at i k n : ℕ) → k ≤ i → sets l (at + i) (le (k - i) n) ≡ l
+pub put-done : (l : List ℕ) (i e n : ℕ) → e ≤ i → sets l i (le (e - i) n) ≡ l
 unfolding le
-put-done l at i k n h = let e : k - i ≡ 0 = omega arith in rw e
+put-done l i e n h = let f : e - i ≡ 0 = omega arith in rw f

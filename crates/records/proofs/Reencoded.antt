@@ -7,12 +7,10 @@ use lib.Dec.{eqb}
 use lib.ListN.{length, take}
 use Rattle.records.specs.Le.{number_at}
 use Rattle.records.specs.Layout.{length_of, kind_of, kind_of_order, flag_of, body_of, body_of_order, head_of, bytes_of_timed, bytes_of_order, kind_in, action_in, order_in}
-use Rattle.records.specs.Decoded.{timed_of, record_of}
+use Rattle.records.specs.Decoded.{timed_of, record_of, timed_at, any_at, order_at}
 use Rattle.records.specs.Values.{AreBytes}
 use Rattle.records.specs.declared.Action.{Action}
 use Rattle.records.specs.declared.Order.{Order}
-use Rattle.records.specs.declared.TimedAt.TheVariants.{Timed}
-use Rattle.records.specs.declared.RecordAt.TheVariants.{Timed as AnyTimed, Order as AnyOrder}
 use Rattle.records.proofs.Numbers.{le-number, part, part_join}
 use Rattle.records.proofs.NineKinds.{Known, known, is_key, is-enc, is-adc, is-midi, is-key-vel, is-pressure, is_read_lem, is-write, is-step, timed-least, known-least}
 use Rattle.records.proofs.Kept.{Kept}
@@ -76,7 +74,7 @@ module _ (s : List ℕ) (b : AreBytes s) where
   -- What decodes is what the layout says: its n bytes are those that encoding its time and action gives.
   pub encode-decoded :
       (at time n : ℕ) (a : Action) →
-      timed_of s at ≡ Timed time a (at + n) →
+      timed_of s at ≡ timed_at time a (at + n) →
       take n s ≡ bytes_of_timed time a
   unfolding bytes_of_timed
   encode-decoded at time n a e =
@@ -92,11 +90,11 @@ module _ (s : List ℕ) (b : AreBytes s) where
 
   pub encode-decoded-any :
       (at time n : ℕ) (a : Action) →
-      record_of s at ≡ AnyTimed time a (at + n) →
+      record_of s at ≡ any_at time a (at + n) →
       take n s ≡ bytes_of_timed time a
-  encode-decoded-any at time n a e = encode-decoded at time n a (any_found s at (Timed time a (at + n)) e)
+  encode-decoded-any at time n a e = encode-decoded at time n a (any_found s at (timed_at time a (at + n)) e)
 
-  pub encode-decoded-order : (at n : ℕ) (o : Order) → record_of s at ≡ AnyOrder o (at + n) → take n s ≡ bytes_of_order o
+  pub encode-decoded-order : (at n : ℕ) (o : Order) → record_of s at ≡ order_at o (at + n) → take n s ≡ bytes_of_order o
   unfolding bytes_of_order
   encode-decoded-order at n o e =
       let f = order-found s at e in

@@ -10,15 +10,13 @@ use lib.ListN.{length, take, drop, length-append}
 use lib.Seq.{drop_at, length-take-le}
 use Rattle.records.specs.Le.{le, unle, number_at}
 use Rattle.records.specs.Layout.{is_timed, is_order, length_of, kind_of, kind_of_order, bytes_of_timed, bytes_of_order, length_in, kind_in, time_in, action_in, order_in, whole_kind}
-use Rattle.records.specs.Decoded.{timed_of, any_of, record_of}
+use Rattle.records.specs.Decoded.{timed_of, any_of, record_of, timed_at, any_at, order_at}
 use Rattle.records.specs.Encoded.{written_of}
 use Rattle.records.specs.Values.{FitsAction, FitsOrder}
 use Rattle.records.specs.declared.Action.{Action}
 use Rattle.records.specs.declared.Action.TheVariants.{Key, Enc, Adc, Midi, KeyVel, Pressure}
 use Rattle.records.specs.declared.Order.{Order}
 use Rattle.records.specs.declared.Order.TheVariants.{Read, Write, Step}
-use Rattle.records.specs.declared.TimedAt.TheVariants.{Timed}
-use Rattle.records.specs.declared.RecordAt.TheVariants.{Timed as AnyTimed, Order as AnyOrder}
 use Rattle.records.proofs.Numbers.{unle-le}
 use Rattle.records.proofs.Kept.{Kept, keeps}
 use Rattle.records.proofs.Inverse.{timed-range}
@@ -113,7 +111,7 @@ pub timed-decodes :
     (s : List ℕ) (at : ℕ) →
     Kept s →
     is_timed (kind_in s) ≡ true →
-    timed_of s at ≡ Timed (time_in s) (action_in (kind_in s) s) (at + length_of (kind_in s))
+    timed_of s at ≡ timed_at (time_in s) (action_in (kind_in s) s) (at + length_of (kind_in s))
 unfolding timed_of whole_kind
 timed-decodes s at k t =
     let some : length s ≡ 0 → ⊥ = λ z. let four = k.four in omega arith in
@@ -123,7 +121,7 @@ pub order-decodes :
     (s : List ℕ) (at : ℕ) →
     Kept s →
     is_order (kind_in s) ≡ true →
-    record_of s at ≡ AnyOrder (order_in (kind_in s) s) (at + length_of (kind_in s))
+    record_of s at ≡ order_at (order_in (kind_in s) s) (at + length_of (kind_in s))
 unfolding record_of whole_kind
 order-decodes s at k o = rw (keeps s k, o)
 
@@ -153,7 +151,7 @@ module _ (time : ℕ) (a : Action) (rest : List ℕ) where
       (at : ℕ) →
       time < 2 ^ 64 →
       FitsAction a →
-      timed_of (bytes_of_timed time a ++ rest) at ≡ Timed time a (at + length (bytes_of_timed time a))
+      timed_of (bytes_of_timed time a ++ rest) at ≡ timed_at time a (at + length (bytes_of_timed time a))
   decode-encoded at h f =
       timed-decodes (bytes_of_timed time a ++ rest) at encoded-kept encoded-timed
       ∙ rw ((timed-read time rest a).1, time-read time rest a h, action-read time rest a f, timed-length time a)
@@ -163,7 +161,7 @@ module _ (time : ℕ) (a : Action) (rest : List ℕ) where
       (at : ℕ) →
       time < 2 ^ 64 →
       FitsAction a →
-      record_of (bytes_of_timed time a ++ rest) at ≡ AnyTimed time a (at + length (bytes_of_timed time a))
+      record_of (bytes_of_timed time a ++ rest) at ≡ any_at time a (at + length (bytes_of_timed time a))
   decode-encoded-any at h f =
       any-decodes (bytes_of_timed time a ++ rest) at encoded-kept encoded-timed ∙ ap any_of (decode-encoded at h f)
 
@@ -171,7 +169,7 @@ module _ (time : ℕ) (a : Action) (rest : List ℕ) where
 pub decode-encoded-order :
     (o : Order) (rest : List ℕ) (at : ℕ) →
     FitsOrder o →
-    record_of (bytes_of_order o ++ rest) at ≡ AnyOrder o (at + length (bytes_of_order o))
+    record_of (bytes_of_order o ++ rest) at ≡ order_at o (at + length (bytes_of_order o))
 decode-encoded-order o rest at f =
     let (l, k) = order-head rest o in
     let over = order-over o in
@@ -198,7 +196,7 @@ pub decode-written :
     at + length (bytes_of_timed time a) ≤ length out →
     time < 2 ^ 64 →
     FitsAction a →
-    timed_of (drop at (written_of out at (bytes_of_timed time a))) at ≡ Timed time a (at + length (bytes_of_timed time a))
+    timed_of (drop at (written_of out at (bytes_of_timed time a))) at ≡ timed_at time a (at + length (bytes_of_timed time a))
 decode-written out at time a h t f =
     let (rest, e) = there out (bytes_of_timed time a) at h in
     rw e (decode-encoded time a rest at t f)
@@ -207,7 +205,7 @@ pub decode-written-order :
     (out : List ℕ) (at : ℕ) (o : Order) →
     at + length (bytes_of_order o) ≤ length out →
     FitsOrder o →
-    record_of (drop at (written_of out at (bytes_of_order o))) at ≡ AnyOrder o (at + length (bytes_of_order o))
+    record_of (drop at (written_of out at (bytes_of_order o))) at ≡ order_at o (at + length (bytes_of_order o))
 decode-written-order out at o h f =
     let (rest, e) = there out (bytes_of_order o) at h in
     rw e (decode-encoded-order o rest at f)

@@ -11,7 +11,10 @@ use lib.Seq.{sets, sets-eq, length-sets, length-take-le, take_at, drop_at}
 use Rattle.records.specs.Le.{le}
 use Rattle.records.specs.Layout.{length_of, kind_of, kind_of_order, bytes_of_timed, bytes_of_order}
 use Rattle.records.specs.Encoded.{answer_of, written_of}
-use Rattle.records.specs.declared.Wrote.TheVariants.{Next, NoRoom}
+use Rattle.std.specs.Prelude.{Some, None}
+use Rattle.records.specs.Kinds.{kind_of_body, bytes_of}
+use Rattle.records.specs.declared.Body.{Body}
+use Rattle.records.specs.declared.Body.TheVariants.{Timed as TimedBody, Order as OrderBody}
 use Rattle.records.specs.declared.Action.{Action}
 use Rattle.records.specs.declared.Action.TheVariants.{Key, Enc, Adc, Midi, KeyVel, Pressure}
 use Rattle.records.specs.declared.Order.{Order}
@@ -49,14 +52,22 @@ order-over (Read addr) = lit≤ tt
 order-over (Write addr value) = lit≤ tt
 order-over (Step cycles) = lit≤ tt
 
+pub body-length : (b : Body) → length (bytes_of b) ≡ length_of (kind_of_body b)
+body-length (TimedBody time action) = timed-length time action
+body-length (OrderBody order) = order-length order
+
+pub body-over : (b : Body) → 4 ≤ length_of (kind_of_body b)
+body-over (TimedBody time action) = omega (arith, timed-over action)
+body-over (OrderBody order) = order-over order
+
 -- `len` is what the code has for the length of the bytes
 module _ (out : List ℕ) (at len : ℕ) (bytes : List ℕ) (e : length bytes ≡ len) where
-  pub no_room_lem : leb (at + len) (length out) ≡ false → (NoRoom ≡ answer_of out at bytes) × (out ≡ written_of out at bytes)
+  pub no_room_lem : leb (at + len) (length out) ≡ false → (None ≡ answer_of out at bytes) × (out ≡ written_of out at bytes)
   no_room_lem f = (rw (e, f), rw (e, f))
 
   pub room :
       leb (at + len) (length out) ≡ true →
-      (Next (at + len) ≡ answer_of out at bytes) × (sets out at bytes ≡ written_of out at bytes)
+      (Some (at + len) ≡ answer_of out at bytes) × (sets out at bytes ≡ written_of out at bytes)
   room t =
       let h : at + length bytes ≤ length out = rw e (leb-true _ _ t) in
       (rw (e, t), rw (le-leb _ _ h) (sets-eq bytes out at h))

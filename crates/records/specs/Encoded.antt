@@ -1,10 +1,8 @@
--- What encoding answers and leaves in `out`: the bytes at the offset `at`, or all as it was where they do not fit.
-use Rattle.std.specs.Prelude.{cond, List, ◌++◌, ℕ, ◌+◌, leb, length, take, drop}
-use Rattle.records.specs.declared.Wrote.{Wrote}
-use Rattle.records.specs.declared.Wrote.TheVariants.{Next, NoRoom}
+-- What encoding answers and leaves in `out`: the bytes at the offset `at` and where they end, or all as it was and no answer where they do not fit.
+use Rattle.std.specs.Prelude.{cond, List, Option, Some, None, ◌++◌, ℕ, ◌+◌, leb, length, take, drop}
 
-abbrev pub answer_of : List ℕ → ℕ → List ℕ → Wrote
-answer_of out at bytes = cond (leb (at + length bytes) (length out)) (Next (at + length bytes)) NoRoom
+abbrev pub answer_of : List ℕ → ℕ → List ℕ → Option ℕ
+answer_of out at bytes = cond (leb (at + length bytes) (length out)) (Some (at + length bytes)) None
 
 abbrev pub written_of : List ℕ → ℕ → List ℕ → List ℕ
 written_of out at bytes =

@@ -1,5 +1,6 @@
 pub mod Le
 pub mod Layout
+pub mod Kinds
 pub mod Decoded
 pub mod Encoded
 pub mod Told

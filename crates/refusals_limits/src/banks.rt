@@ -1,6 +1,6 @@
 // The calls that are lent both banks, as many words of each as is asked for: a few more are there than a bank has.
 ghost use Rattle.std.specs.Prelude.{◌≡◌};
-ghost use Rattle.refusals_limits.specs.Lent.{made_tried, made_with, banked_tried, cut_of, banks_of, looking_of};
+ghost use Rattle.refusals_limits.specs.Lent.{made_tried, made_with, banked_tried, cut_of, banks_of};
 
 use state::Board;
 
@@ -49,7 +49,17 @@ fn made_with(
     NO_ROOM
 }
 
-pub fn banked(b: Board, call: usize, a: u32, first: u64, second: u64) -> u32
+#[derive(Clone, Copy, Debug, PartialEq, Eq)]
+pub enum Lent {
+    Read,
+    IrqEnabled,
+    PendingIrqFor,
+    PendingIrq,
+    Write,
+    ChipReset,
+}
+
+pub fn banked(b: Board, call: Lent, a: u32, first: u64, second: u64) -> u32
     ensures { result ≡ banked_tried b call a first second }
 {
     let mut icfg = [0u32; 40];
@@ -68,7 +78,7 @@ pub fn banked(b: Board, call: usize, a: u32, first: u64, second: u64) -> u32
 #[tactic(auto, unfolding(crate::specs::Lent::cut_of))]
 fn cut(
     b: Board,
-    call: usize,
+    call: Lent,
     a: u32,
     icfg: &mut [u32],
     first: usize,
@@ -86,24 +96,15 @@ fn cut(
 }
 
 #[tactic(auto, unfolding(crate::specs::Lent::banks_of))]
-fn with_banks(b: Board, call: usize, a: u32, icfg: &mut [u32], icfg1: &mut [u32]) -> u32
+fn with_banks(b: Board, call: Lent, a: u32, icfg: &mut [u32], icfg1: &mut [u32]) -> u32
     ensures { result ≡ banks_of b call a icfg.old icfg1.old }
 {
     match call {
-        4 => board::write(b, a, 1, icfg, icfg1).refused,
-        5 => board::chip_reset(b, icfg, icfg1).refused,
-        _ => looking(b, call, a, icfg, icfg1),
-    }
-}
-
-#[tactic(auto, unfolding(crate::specs::Lent::looking_of))]
-fn looking<'a>(b: Board, call: usize, a: u32, icfg: &'a [u32], icfg1: &'a [u32]) -> u32
-    ensures { result ≡ looking_of b call a icfg.now icfg1.now }
-{
-    match call {
-        0 => board::read(b, a, icfg, icfg1).refused,
-        1 => board::irq_enabled(b, a, 1, icfg, icfg1).refused,
-        2 => board::pending_irq_for(b, a, icfg, icfg1).refused,
-        _ => board::pending_irq(b, icfg, icfg1).refused,
+        Lent::Read => board::read(b, a, icfg, icfg1).refused,
+        Lent::IrqEnabled => board::irq_enabled(b, a, 1, icfg, icfg1).refused,
+        Lent::PendingIrqFor => board::pending_irq_for(b, a, icfg, icfg1).refused,
+        Lent::PendingIrq => board::pending_irq(b, icfg, icfg1).refused,
+        Lent::Write => board::write(b, a, 1, icfg, icfg1).refused,
+        Lent::ChipReset => board::chip_reset(b, icfg, icfg1).refused,
     }
 }

@@ -1,51 +1,22 @@
 // What `refusals_whole` and `refusals_limits` share: a line's names and numbers, and the line written again with its answer.
 #![tactic(auto)]
 
-ghost use Rattle.std.specs.Prelude.{◌≡◌, ◌++◌, ◌≤◌, length};
+ghost use Rattle.std.specs.Prelude.{◌≡◌, ◌++◌, length};
 ghost use Rattle.text.specs.Putting.{place_after_all, put_all, decimal_of};
-ghost use Rattle.refusals_lines.specs.Lines.{place_in, number_in, numbers_in, answer_text, line_text};
+ghost use Rattle.refusals_lines.specs.Lines.{number_in, numbers_in, answer_text, line_text};
 
-use text::{Number, Span, decimal_in, is, put_decimal, put_text, word};
-
-// A line's numbers, in their order.
-#[derive(Clone, Copy)]
-pub struct Numbers {
-    pub a: u64,
-    pub b: u64,
-    pub c: u64,
-    pub d: u64,
-    pub e: u64,
-}
+use text::{Span, bytes_of, decimal, is, put_decimal, put_text, word};
 
 // What came back: no number, one, or three.
-#[derive(Clone, Copy)]
-pub struct Answer {
-    pub count: u32,
-    pub one: u32,
-    pub two: u32,
-    pub three: u32,
-}
-
-// Which of the list's words it is, counted from 0; `most` where it is none of so many.
-pub fn place_in(list: &[u8], most: usize, name: &[u8]) -> usize
-    ensures value { result ≡ place_in list.now most name.now }
-    ensures bounded { result ≤ most }
-{
-    let mut k: usize = 0;
-    let mut at: usize = 0;
-    while k < most {
-        let w = word(list, at);
-        if is(list, w, name) {
-            return k;
-        }
-        at = w.to;
-        k = k + 1;
-    }
-    k
+#[derive(Clone, Copy, Debug, PartialEq, Eq)]
+pub enum Answer {
+    Nothing,
+    One(u32),
+    Three(u32, u32, u32),
 }
 
 // The five words from `at` on as numbers.
-pub fn numbers_of(line: &[u8], at: usize) -> Numbers
+pub fn numbers_of(line: &[u8], at: usize) -> [u64; 5]
     ensures { result ≡ numbers_in line.now at }
 {
     let one = word(line, at);
@@ -53,22 +24,19 @@ pub fn numbers_of(line: &[u8], at: usize) -> Numbers
     let three = word(line, two.to);
     let four = word(line, three.to);
     let five = word(line, four.to);
-    Numbers {
-        a: number(line, one),
-        b: number(line, two),
-        c: number(line, three),
-        d: number(line, four),
-        e: number(line, five),
-    }
+    [
+        number(line, one),
+        number(line, two),
+        number(line, three),
+        number(line, four),
+        number(line, five),
+    ]
 }
 
 fn number(line: &[u8], w: Span) -> u64
     ensures { result ≡ number_in line.now w }
 {
-    let Number::Is(n) = decimal_in(line, w) else {
-        return 0;
-    };
-    n
+    decimal(bytes_of(line, w)).unwrap_or(0)
 }
 
 // ---- writing
@@ -83,19 +51,20 @@ pub fn put_line(out: &mut [u8], line: &[u8], a: Answer) -> usize
     put_text(out, said, b"\n")
 }
 
+#[tactic(auto, unfolding(crate::specs::Lines::answer_text, text::specs::Putting::place_after_all, text::specs::Putting::put_all))]
 fn put_answer(out: &mut [u8], at: usize, a: Answer) -> usize
     ensures place { result ≡ place_after_all (length out.old) at (answer_text a) }
     ensures bytes { out.new ≡ put_all out.old at (answer_text a) }
 {
-    if a.count == 0 {
-        return at;
+    match a {
+        Answer::Nothing => at,
+        Answer::One(n) => put_number(out, at, b" = ", n),
+        Answer::Three(n, m, l) => {
+            let one = put_number(out, at, b" = ", n);
+            let two = put_number(out, one, b" ", m);
+            put_number(out, two, b" ", l)
+        }
     }
-    if a.count == 1 {
-        return put_number(out, at, b" = ", a.one);
-    }
-    let one = put_number(out, at, b" = ", a.one);
-    let two = put_number(out, one, b" ", a.two);
-    put_number(out, two, b" ", a.three)
 }
 
 fn put_number(out: &mut [u8], at: usize, mark: &[u8], n: u32) -> usize

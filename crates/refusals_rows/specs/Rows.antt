@@ -1,5 +1,5 @@
 -- Rows of numbers, 48 of 41 places, and the record that is made of them.
-use Rattle.std.specs.Prelude.{ℕ, ◌%◌, ◌^◌, cond, List, [], ◌∷◌, map, ltb, Float, get_or, set, replicate}
+use Rattle.std.specs.Prelude.{ℕ, ◌%◌, ◌^◌, cond, List, [], ◌∷◌, map, ltb, Float, Option, get_or, set, replicate}
 use Rattle.std.specs.Float.{binary32}
 use Rattle.std.specs.Float.Ieee.{of_bits}
 use Rattle.audio.specs.Audio.{playing, with_registers}
@@ -10,7 +10,9 @@ use Rattle.keys.specs.Keys.{ramps_of}
 use Rattle.keys.specs.declared.Keys.{Keys}
 use Rattle.panel.specs.Pins.{with_time, taken}
 use Rattle.panel.specs.declared.pins.Pins.{Pins}
-use Rattle.refusals_lines.specs.Lines.{place_in}
+use Rattle.refusals_rows.specs.declared.TheConstants.{FIELDS}
+use Rattle.std.specs.Str.{bytes_eq}
+use Rattle.text.specs.Tables.{found}
 use Rattle.script.specs.declared.Script.{Script}
 use Rattle.spi.specs.Spi.{spi1_with, spi2_with}
 use Rattle.spi.specs.declared.Spi.{Spi}
@@ -21,7 +23,6 @@ use Rattle.state.specs.declared.Chip.{Chip}
 use Rattle.state.specs.declared.Clock.{Clock}
 use Rattle.state.specs.declared.Host.{Host}
 use Rattle.state.specs.declared.Panel.{Panel}
-use Rattle.text.specs.Ascii.{bytes}
 use Rattle.timers.specs.OsTick.{tick_counting}
 use Rattle.timers.specs.Timer.{tmr_new}
 use Rattle.timers.specs.Timer4.{t4_after, t4_counting}
@@ -35,13 +36,9 @@ use Rattle.uart.specs.declared.Uart.{Uart}
 
 -- ---- the rows
 
--- the fields, a row each
-abbrev pub fields : List ℕ
-fields = bytes "hz cycles next_due skipped skip_idle in_isr t4.con t4.base t4.last_cnt_read t4.cnt_streak t5.next tmr.start tmr.next tick.start tick.next audio.next audio.half audio.len spi1_done_at spi1_irq_at spi1_wire spi2_next uart.next uart.ot_next uart.dropped uart.wr uart.rxcnt uart.place uart.count usb_next usb_period wdt_at script.at script.place script.count led_last led_since led_pend enc.next enc.pending enc.state keys.vel exc_pending ramps.t0 ramps.dur ramps.from ramps.to acc"
-
--- the number of a field's row, 48 where it is no field
-abbrev pub row_of : List ℕ → ℕ
-row_of name = place_in fields 48 name
+-- the number of a field's row
+unfoldable pub row_of : List ℕ → Option ℕ
+row_of name = found (λ row. bytes_eq row.0.now name) FIELDS
 
 abbrev pub row : List (List ℕ) → ℕ → List ℕ
 row rows k = get_or rows k []

@@ -1,7 +1,7 @@
 // The record from rows of numbers, one for each field that a whole record limits and for those that decide what the calls here do. A field with one place has it at the row's front; all other fields are a new board's.
 #![tactic(auto)]
 
-ghost use Rattle.std.specs.Prelude.{◌≡◌, ◌≤◌, map};
+ghost use Rattle.std.specs.Prelude.{◌≡◌, ◌<◌, Some, map};
 ghost use Rattle.refusals_rows.specs.Rows.{
   row_of,
   filled,
@@ -27,10 +27,10 @@ ghost use Rattle.refusals_rows.specs.Rows.{
 
 use audio::Audio;
 use panel::{Enc, Pins, Ramps};
-use refusals_lines::place_in;
 use script::Script;
 use spi::Spi;
 use state::{Board, Chip, Clock, Host, Panel};
+use text::find;
 use timers::{T4, Tmr};
 use uart::Uart;
 
@@ -38,16 +38,64 @@ pub const ROWS: usize = 48;
 
 pub const PLACES: usize = 41;
 
-// The number of a field's row, ROWS where it is no field.
-pub fn row_of(name: &[u8]) -> usize
+// The fields, each with the number of its row.
+const FIELDS: [(&[u8], usize); ROWS] = [
+    (b"hz", 0),
+    (b"cycles", 1),
+    (b"next_due", 2),
+    (b"skipped", 3),
+    (b"skip_idle", 4),
+    (b"in_isr", 5),
+    (b"t4.con", 6),
+    (b"t4.base", 7),
+    (b"t4.last_cnt_read", 8),
+    (b"t4.cnt_streak", 9),
+    (b"t5.next", 10),
+    (b"tmr.start", 11),
+    (b"tmr.next", 12),
+    (b"tick.start", 13),
+    (b"tick.next", 14),
+    (b"audio.next", 15),
+    (b"audio.half", 16),
+    (b"audio.len", 17),
+    (b"spi1_done_at", 18),
+    (b"spi1_irq_at", 19),
+    (b"spi1_wire", 20),
+    (b"spi2_next", 21),
+    (b"uart.next", 22),
+    (b"uart.ot_next", 23),
+    (b"uart.dropped", 24),
+    (b"uart.wr", 25),
+    (b"uart.rxcnt", 26),
+    (b"uart.place", 27),
+    (b"uart.count", 28),
+    (b"usb_next", 29),
+    (b"usb_period", 30),
+    (b"wdt_at", 31),
+    (b"script.at", 32),
+    (b"script.place", 33),
+    (b"script.count", 34),
+    (b"led_last", 35),
+    (b"led_since", 36),
+    (b"led_pend", 37),
+    (b"enc.next", 38),
+    (b"enc.pending", 39),
+    (b"enc.state", 40),
+    (b"keys.vel", 41),
+    (b"exc_pending", 42),
+    (b"ramps.t0", 43),
+    (b"ramps.dur", 44),
+    (b"ramps.from", 45),
+    (b"ramps.to", 46),
+    (b"acc", 47),
+];
+
+// The number of a field's row.
+pub fn row_of(name: &[u8]) -> Option<usize>
     ensures value { result ≡ row_of name.now }
-    ensures bounded { result ≤ 48 }
+    ensures bounded { (k : _) → result ≡ Some k → k < 48 }
 {
-    place_in(
-        b"hz cycles next_due skipped skip_idle in_isr t4.con t4.base t4.last_cnt_read t4.cnt_streak t5.next tmr.start tmr.next tick.start tick.next audio.next audio.half audio.len spi1_done_at spi1_irq_at spi1_wire spi2_next uart.next uart.ot_next uart.dropped uart.wr uart.rxcnt uart.place uart.count usb_next usb_period wdt_at script.at script.place script.count led_last led_since led_pend enc.next enc.pending enc.state keys.vel exc_pending ramps.t0 ramps.dur ramps.from ramps.to acc",
-        ROWS,
-        name,
-    )
+    find(&FIELDS, name)
 }
 
 // One number in all of a row's places.
@@ -84,8 +132,8 @@ fn tmr_of(start: u64, next: u64) -> Tmr
     ensures { result ≡ tmr_made start next }
 {
     Tmr {
-        start: start,
-        next: next,
+        start,
+        next,
         con: 0,
         prd: 0,
         cnt0: 0,
@@ -97,7 +145,7 @@ fn enc_of(next: u64, pending: u64, state: u64) -> Enc
     ensures { result ≡ enc_made next pending state }
 {
     Enc {
-        next: next,
+        next,
         pending: (pending % 0x1_0000_0000) as u32,
         state: (state % 0x1_0000_0000) as u32,
     }
@@ -256,10 +304,8 @@ fn forces(row: [u64; PLACES]) -> [f32; PLACES]
     ensures { result ≡ map force_from row }
 {
     let mut f = [0.0f32; PLACES];
-    let mut i: usize = 0;
-    while i < PLACES {
-        f[i] = force(row[i]);
-        i = i + 1;
+    for (i, bits) in row.iter().enumerate() {
+        f[i] = force(*bits);
     }
     f
 }
@@ -268,10 +314,8 @@ fn lows(row: [u64; PLACES]) -> [u32; PLACES]
     ensures { result ≡ map low_of row }
 {
     let mut l = [0u32; PLACES];
-    let mut i: usize = 0;
-    while i < PLACES {
-        l[i] = low(row[i]);
-        i = i + 1;
+    for (i, v) in row.iter().enumerate() {
+        l[i] = low(*v);
     }
     l
 }
@@ -283,12 +327,7 @@ fn panel_of(mut p: Panel, rows: &[[u64; PLACES]; ROWS]) -> Panel
     let dur = lows(rows[44]);
     let from = forces(rows[45]);
     let to = forces(rows[46]);
-    let ramps = Ramps {
-        t0: t0,
-        dur: dur,
-        from: from,
-        to: to,
-    };
+    let ramps = Ramps { t0, dur, from, to };
     let acc = rows[47];
     p.ramps = ramps;
     p.acc = acc;

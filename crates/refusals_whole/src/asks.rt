@@ -1,28 +1,45 @@
 // What is asked of a record: `ms`, a step and a push at once, or one of the calls that look at more of it than that it is whole.
 ghost use Rattle.std.specs.Prelude.{◌≡◌};
-ghost use Rattle.refusals_rows.specs.Rows.{board_from};
-ghost use Rattle.refusals_whole.specs.Asked.{call_of, three_at, three_of, asked_of, timed_of, read_tried};
+ghost use Rattle.refusals_rows.specs.Rows.{board_from, low};
+ghost use Rattle.refusals_whole.specs.Asked.{asked_of, call_of, read_tried, three_at, three_of};
 
 use crate::lent::{apply, push, step};
 use board_guard::BANK_WORDS;
-use refusals_lines::{Answer, Numbers, place_in};
+use refusals_lines::Answer;
 use refusals_rows::{PLACES, ROWS, board_of, put_at};
 use script::SCRIPT_WORDS;
 use state::Board;
 use step::OUT_BYTES;
+use text::find;
 use uart::QUEUE_BYTES;
 
-pub const CALLS: usize = 8;
+#[derive(Clone, Copy, Debug, PartialEq, Eq)]
+pub enum Call {
+    Step,
+    Push,
+    Apply,
+    Tick,
+    Idle,
+    Read,
+    Spi1Start,
+    Spi2Start,
+}
 
-// By its place in this list, CALLS where it is none.
-pub fn call_of(name: &[u8]) -> usize
+const CALLS: [(&[u8], Call); 8] = [
+    (b"step", Call::Step),
+    (b"push", Call::Push),
+    (b"apply", Call::Apply),
+    (b"tick", Call::Tick),
+    (b"idle", Call::Idle),
+    (b"read", Call::Read),
+    (b"spi1_start", Call::Spi1Start),
+    (b"spi2_start", Call::Spi2Start),
+];
+
+pub fn call_of(name: &[u8]) -> Option<Call>
     ensures { result ≡ call_of name.now }
 {
-    place_in(
-        b"step push apply tick idle read spi1_start spi2_start",
-        CALLS,
-        name,
-    )
+    find(&CALLS, name)
 }
 
 // The record with a number at a place of a row.
@@ -38,10 +55,9 @@ fn three_of(b: Board) -> Answer
     ensures { result ≡ three_of b }
 {
     let front = b.chip.script.at;
-    Answer {
-        count: 3,
-        one: board::ms(b).refused,
-        two: step(
+    Answer::Three(
+        board::ms(b).refused,
+        step(
             b,
             0,
             QUEUE_BYTES as u64,
@@ -49,39 +65,36 @@ fn three_of(b: Board) -> Answer
             OUT_BYTES as u64,
             front,
         ),
-        three: push(b, SCRIPT_WORDS as u64, front),
-    }
+        push(b, SCRIPT_WORDS as u64, front),
+    )
+}
+
+pub fn asked(rows: &[[u64; PLACES]; ROWS], call: Call, n: [u64; 5]) -> u32
+    ensures { result ≡ asked_of (board_from rows.now) call n }
+{
+    of_board(board_of(rows), call, n)
 }
 
 #[tactic(auto, unfolding(crate::specs::Asked::asked_of))]
-pub fn asked(rows: &[[u64; PLACES]; ROWS], call: usize, n: Numbers) -> u32
-    ensures { result ≡ asked_of (board_from rows.now) call n }
+fn of_board(b: Board, call: Call, n: [u64; 5]) -> u32
+    ensures { result ≡ asked_of b call n }
 {
-    let b = board_of(rows);
     match call {
-        0 => step(b, n.a, n.b, n.c, n.d, n.e),
-        1 => push(b, n.a, n.b),
-        2 => apply(b, n.a, n.b),
-        _ => timed(
-            b,
-            call,
-            (n.a % 0x1_0000_0000) as u32,
-            (n.b % 0x1_0000_0000) as u32,
-        ),
+        Call::Step => step(b, n[0], n[1], n[2], n[3], n[4]),
+        Call::Push => push(b, n[0], n[1]),
+        Call::Apply => apply(b, n[0], n[1]),
+        Call::Tick => board::tick(b).refused,
+        Call::Idle => board::idle(b).refused,
+        Call::Read => read(b, low(n[0])),
+        Call::Spi1Start => board::spi1_start(b, low(n[0]), low(n[1]), true).refused,
+        Call::Spi2Start => board::spi2_start(b, low(n[0]), low(n[1]), true).refused,
     }
 }
 
-#[tactic(auto, unfolding(crate::specs::Asked::timed_of))]
-fn timed(b: Board, call: usize, v: u32, w: u32) -> u32
-    ensures { result ≡ timed_of b call v w }
+fn low(n: u64) -> u32
+    ensures { result ≡ low n }
 {
-    match call {
-        3 => board::tick(b).refused,
-        4 => board::idle(b).refused,
-        5 => read(b, v),
-        6 => board::spi1_start(b, v, w, true).refused,
-        _ => board::spi2_start(b, v, w, true).refused,
-    }
+    (n % 0x1_0000_0000) as u32
 }
 
 fn read(b: Board, addr: u32) -> u32

@@ -16,27 +16,19 @@
 mod asks;
 mod lent;
 
-use asks::{CALLS, asked, call_of, three};
-use refusals_lines::{Answer, Numbers, numbers_of, put_line};
+use asks::{asked, call_of, three};
+use refusals_lines::{Answer, numbers_of, put_line};
 use refusals_rows::{PLACES, ROWS, fill, row_of};
-use text::{STDIN, STDOUT, Span, bytes_of, first, is, line_end, word};
+use text::{STDIN, STDOUT, bytes_of, first, is, word};
 
 fn main() {
     let mut input = [0u8; 65536];
     let got = io::read_full(STDIN, &mut input);
-    every_line(first(&input, got));
-}
-
-fn every_line(input: &[u8]) {
     let mut rows = [[0u64; PLACES]; ROWS];
-    let mut from: usize = 0;
-    while from < input.len() {
-        let to = line_end(input, from);
-        if to < input.len() {
-            answered(bytes_of(input, Span { from: from, to: to }), &mut rows);
-            from = to + 1;
-        } else {
-            from = input.len();
+    // as in `refusals_limits`, which says why
+    for part in first(&input, got).split_inclusive(|b| *b == b'\n') {
+        if let Some(line) = part.strip_suffix(b"\n") {
+            answered(line, &mut rows);
         }
     }
 }
@@ -46,32 +38,22 @@ fn answered(line: &[u8], rows: &mut [[u64; PLACES]; ROWS]) {
     let name = word(line, verb.to);
     let n = numbers_of(line, verb.to);
     if is(line, verb, b"let") {
-        fill(rows, row_of(bytes_of(line, name)), n.b);
-        told(line, number(0, 0));
-        return;
+        if let Some(row) = row_of(bytes_of(line, name)) {
+            fill(rows, row, n[1]);
+        }
+        told(line, Answer::Nothing);
+    } else {
+        told(line, tried(rows, bytes_of(line, verb), n));
     }
-    told(line, tried(rows, bytes_of(line, verb), n));
 }
 
-fn tried(rows: &[[u64; PLACES]; ROWS], name: &[u8], n: Numbers) -> Answer {
-    let row = row_of(name);
-    if row < ROWS {
-        return three(rows, row, n.a, n.b);
+fn tried(rows: &[[u64; PLACES]; ROWS], name: &[u8], n: [u64; 5]) -> Answer {
+    if let Some(row) = row_of(name) {
+        return three(rows, row, n[0], n[1]);
     }
-    let call = call_of(name);
-    if call < CALLS {
-        return number(1, asked(rows, call, n));
-    }
-    number(0, 0)
-}
-
-// One number, or none.
-fn number(count: u32, n: u32) -> Answer {
-    Answer {
-        count: count,
-        one: n,
-        two: 0,
-        three: 0,
+    match call_of(name) {
+        Some(call) => Answer::One(asked(rows, call, n)),
+        None => Answer::Nothing,
     }
 }
 

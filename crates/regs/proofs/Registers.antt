@@ -5,7 +5,7 @@ use Prim.Native.Nat.{ℕ, ◌+◌}
 use Rattle.base.proofs.Cases.{under-four}
 use Rattle.state.specs.declared.Chip.{Chip}
 use Rattle.timers.specs.Timer.{tmr_con, tmr_cnt, tmr_prd, tmr_of}
-use Rattle.regs.specs.declared.reads.Value.TheVariants.{Is}
+use Rattle.std.specs.Prelude.{Some}
 use Rattle.regs.specs.Reads.{tmr_read, t4_read, t5_read, tick_read, audio_read, adc_read, uart_read, port_read, first_read, second_read, read_of}
 use Rattle.regs.specs.Registers.{tmr_page, Registers}
 
@@ -14,9 +14,9 @@ unfolding read_of tmr_read t4_read t5_read tick_read audio_read adc_read uart_re
 registers c icfg icfg1 = record {
   t4-con = refl;
   t4-cnt = refl;
-  tmr-con = under-four (λ (i : ℕ). read_of c icfg icfg1 (tmr_page i) ≡ Is (tmr_con (tmr_of c.tmr i))) refl refl refl refl;
-  tmr-cnt = under-four (λ (i : ℕ). read_of c icfg icfg1 (tmr_page i + 4) ≡ Is (tmr_cnt (tmr_of c.tmr i) c.clock.cycles c.clock.hz)) refl refl refl refl;
-  tmr-prd = under-four (λ (i : ℕ). read_of c icfg icfg1 (tmr_page i + 8) ≡ Is (tmr_prd (tmr_of c.tmr i))) refl refl refl refl;
+  tmr-con = under-four (λ (i : ℕ). read_of c icfg icfg1 (tmr_page i) ≡ Some (tmr_con (tmr_of c.tmr i))) refl refl refl refl;
+  tmr-cnt = under-four (λ (i : ℕ). read_of c icfg icfg1 (tmr_page i + 4) ≡ Some (tmr_cnt (tmr_of c.tmr i) c.clock.cycles c.clock.hz)) refl refl refl refl;
+  tmr-prd = under-four (λ (i : ℕ). read_of c icfg icfg1 (tmr_page i + 8) ≡ Some (tmr_prd (tmr_of c.tmr i))) refl refl refl refl;
   t5-con = refl;
   t5-cnt = refl;
   t5-prd = refl;

@@ -1,5 +1,5 @@
 -- What a read answers: a line a register, by the source's addresses. The page of an address (its 256 bytes) tells the block.
-use Rattle.std.specs.Prelude.{ℕ, ◌+◌, ◌-◌, ◌/◌, Bool, cond, not, ◌&&◌, List, eqb, leb}
+use Rattle.std.specs.Prelude.{ℕ, ◌+◌, ◌-◌, ◌/◌, Bool, cond, not, ◌&&◌, List, eqb, leb, Option, Some, None}
 use Rattle.base.specs.Bits.{is_set}
 use Rattle.adc.specs.Adc.{con_read}
 use Rattle.adc.specs.declared.Adc.{Adc}
@@ -28,77 +28,79 @@ use Rattle.uart.specs.declared.Uart.{Uart}
 use Rattle.state.specs.State.{next_event}
 use Rattle.state.specs.With.{with_clock, with_t4, clock_at}
 use Rattle.state.specs.declared.Chip.{Chip}
-use Rattle.regs.specs.declared.reads.Value.{Value}
-use Rattle.regs.specs.declared.reads.Value.TheVariants.{Is, None}
 
 -- timers 0 to 3, each at its base
-unfoldable pub tmr_read : Tmr → ℕ → ℕ → ℕ → ℕ → Value
+unfoldable pub tmr_read : Tmr → ℕ → ℕ → ℕ → ℕ → Option ℕ
 tmr_read t base addr now hz =
-    cond (eqb addr base) (Is (tmr_con t))
-    (cond (eqb addr (base + 4)) (Is (tmr_cnt t now hz))
-    (cond (eqb addr (base + 8)) (Is (tmr_prd t)) None))
+    cond (eqb addr base) (Some (tmr_con t))
+    (cond (eqb addr (base + 4)) (Some (tmr_cnt t now hz))
+    (cond (eqb addr (base + 8)) (Some (tmr_prd t)) None))
 
-unfoldable pub t4_read : T4 → ℕ → ℕ → ℕ → Value
+unfoldable pub t4_read : T4 → ℕ → ℕ → ℕ → Option ℕ
 t4_read t addr now hz =
-    cond (eqb addr 0x10800) (Is (t4_con t))
-    (cond (eqb addr 0x10804) (Is (t4_cnt t now hz)) None)
+    cond (eqb addr 0x10800) (Some (t4_con t))
+    (cond (eqb addr 0x10804) (Some (t4_cnt t now hz)) None)
 
-unfoldable pub t5_read : T5 → ℕ → ℕ → ℕ → Value
+unfoldable pub t5_read : T5 → ℕ → ℕ → ℕ → Option ℕ
 t5_read t addr now hz =
-    cond (eqb addr 0x10900) (Is (t5_con t))
-    (cond (eqb addr 0x10904) (Is (t5_cnt t now hz))
-    (cond (eqb addr 0x10908) (Is (t5_prd t)) None))
+    cond (eqb addr 0x10900) (Some (t5_con t))
+    (cond (eqb addr 0x10904) (Some (t5_cnt t now hz))
+    (cond (eqb addr 0x10908) (Some (t5_prd t)) None))
 
-unfoldable pub tick_read : Tick → ℕ → ℕ → ℕ → Value
+unfoldable pub tick_read : Tick → ℕ → ℕ → ℕ → Option ℕ
 tick_read t addr now hz =
-    cond (eqb addr 0x1eef0ec) (Is (tick_ctl t))
-    (cond (eqb addr 0x1eef0f0) (Is (tick_cnt t now hz))
-    (cond (eqb addr 0x1eef0f4) (Is (tick_prd t)) None))
+    cond (eqb addr 0x1eef0ec) (Some (tick_ctl t))
+    (cond (eqb addr 0x1eef0f0) (Some (tick_cnt t now hz))
+    (cond (eqb addr 0x1eef0f4) (Some (tick_prd t)) None))
 
-unfoldable pub audio_read : Audio → ℕ → Value
+unfoldable pub audio_read : Audio → ℕ → Option ℕ
 audio_read a addr =
-    cond (eqb addr 0x12e00) (Is (audio_con0 a))
-    (cond (eqb addr 0x12e04) (Is (con1_read a))
-    (cond (eqb addr 0x12e08) (Is (pend_read a))
-    (cond (eqb addr 0x12e0c) (Is (con3_read a))
-    (cond (eqb addr 0x12e1c) (Is (adr_read a))
-    (cond (eqb addr 0x12e20) (Is (len_read a)) None)))))
+    cond (eqb addr 0x12e00) (Some (audio_con0 a))
+    (cond (eqb addr 0x12e04) (Some (con1_read a))
+    (cond (eqb addr 0x12e08) (Some (pend_read a))
+    (cond (eqb addr 0x12e0c) (Some (con3_read a))
+    (cond (eqb addr 0x12e1c) (Some (adr_read a))
+    (cond (eqb addr 0x12e20) (Some (len_read a)) None)))))
 
-unfoldable pub adc_read : Adc → ℕ → Value
+unfoldable pub adc_read : Adc → ℕ → Option ℕ
 adc_read a addr =
-    cond (eqb addr 0x13100) (Is (con_read a))
-    (cond (eqb addr 0x13104) (Is a.sample) None)
+    cond (eqb addr 0x13100) (Some (con_read a))
+    (cond (eqb addr 0x13104) (Some a.sample) None)
 
-unfoldable pub uart_read : Uart → ℕ → Value
+unfoldable pub uart_read : Uart → ℕ → Option ℕ
 uart_read u addr =
-    cond (eqb addr 0x12100) (Is (uart_con0 u))
-    (cond (eqb addr 0x1211c) (Is (rxsadr_read u))
-    (cond (eqb addr 0x12120) (Is (rxeadr_read u))
-    (cond (eqb addr 0x12124) (Is (rxcnt_read u))
-    (cond (eqb addr 0x12110) (Is (otcnt_read u))
-    (cond (eqb addr 0x12128) (Is (hrxcnt_read u)) None)))))
+    cond (eqb addr 0x12100) (Some (uart_con0 u))
+    (cond (eqb addr 0x1211c) (Some (rxsadr_read u))
+    (cond (eqb addr 0x12120) (Some (rxeadr_read u))
+    (cond (eqb addr 0x12124) (Some (rxcnt_read u))
+    (cond (eqb addr 0x12110) (Some (otcnt_read u))
+    (cond (eqb addr 0x12128) (Some (hrxcnt_read u)) None)))))
 
 -- port A's rows (row 0 is PA0, rows 1 to 4 are PA5 to PA8) and port B's (row 5 is PB7)
 unfoldable pub rows_of : Pins → Keys → List Enc → ℕ
 rows_of p k es = closed_rows fm1_map k.down (encs_closed es) p.sr_latched
 
-unfoldable pub port_read : Pins → Keys → List Enc → ℕ → Value
+unfoldable pub port_read : Pins → Keys → List Enc → ℕ → Option ℕ
 port_read p k es addr =
-    cond (eqb addr 0x50004) (Is (pa_in p.pa_out (rows_of p k es)))
-    (cond (eqb addr 0x50044) (Is (pb_in (rows_of p k es))) None)
+    cond (eqb addr 0x50004) (Some (pa_in p.pa_out (rows_of p k es)))
+    (cond (eqb addr 0x50044) (Some (pb_in (rows_of p k es))) None)
 
--- the banks by any address of their range; the latch's set word, and its clear word, which reads 0
-unfoldable pub first_read : List ℕ → Latch → ℕ → Value
+-- a bank by any address of its range: the 128 bytes from where it begins
+abbrev pub bank_read_at : List ℕ → ℕ → ℕ → Option ℕ
+bank_read_at bank from addr = cond (leb addr (from + 0x7f)) (Some (bank_read bank (addr - from))) None
+
+-- the banks; the latch's set word, and its clear word, which reads 0
+unfoldable pub first_read : List ℕ → Latch → ℕ → Option ℕ
 first_read bank l addr =
-    cond (leb addr 0x1eef17f) (Is (bank_read bank (addr - 0x1eef100)))
-    (cond (eqb addr 0x1eef1a0) (Is (set_read l))
-    (cond (eqb addr 0x1eef1a4) (Is (clear_read l)) None))
+    cond (leb addr 0x1eef17f) (Some (bank_read bank (addr - 0x1eef100)))
+    (cond (eqb addr 0x1eef1a0) (Some (set_read l))
+    (cond (eqb addr 0x1eef1a4) (Some (clear_read l)) None))
 
-unfoldable pub second_read : List ℕ → ℕ → Value
-second_read bank addr = cond (leb addr 0x1eef37f) (Is (bank_read bank (addr - 0x1eef300))) None
+unfoldable pub second_read : List ℕ → ℕ → Option ℕ
+second_read bank addr = bank_read_at bank 0x1eef300 addr
 
 -- "An unknown address is no refusal: a read says none"
-unfoldable pub read_of : Chip → List ℕ → List ℕ → ℕ → Value
+unfoldable pub read_of : Chip → List ℕ → List ℕ → ℕ → Option ℕ
 read_of c icfg icfg1 addr =
     cond (eqb (addr / 256) 0x108) (t4_read c.t4 addr now hz)
     (cond (eqb (addr / 256) 0x104) (tmr_read (tmr_of c.tmr 0) 0x10400 addr now hz)

@@ -129,12 +129,15 @@ lights_at addr = eqb addr 0x50000 || eqb addr 0x501c0
 unfoldable pub times_written : Pins → ℕ → ℕ → List ℕ → List ℕ
 times_written p addr now acc = cond (lights_at addr) (credited_times fm1_map p now acc) acc
 
--- the banks, by any address of their range
+-- a bank, by any address of its range: the 128 bytes from where it begins
+abbrev pub bank_written_at : List ℕ → ℕ → ℕ → ℕ → List ℕ
+bank_written_at bank from addr v = cond (leb from addr) (cond (leb addr (from + 0x7f)) (bank_written bank (addr - from) v) bank) bank
+
 unfoldable pub first_written : List ℕ → ℕ → ℕ → List ℕ
-first_written bank addr v = cond (leb 0x1eef100 addr) (cond (leb addr 0x1eef17f) (bank_written bank (addr - 0x1eef100) v) bank) bank
+first_written bank addr v = bank_written_at bank 0x1eef100 addr v
 
 unfoldable pub second_written : List ℕ → ℕ → ℕ → List ℕ
-second_written bank addr v = cond (leb 0x1eef300 addr) (cond (leb addr 0x1eef37f) (bank_written bank (addr - 0x1eef300) v) bank) bank
+second_written bank addr v = bank_written_at bank 0x1eef300 addr v
 
 -- ---- the chip and the board
 

@@ -5,5 +5,5 @@
 mod reads;
 mod writes;
 
-pub use reads::{Value, polled, polls, read};
-pub use writes::{convert, first_write, handled, light, second_write, timed, write, write_chip};
+pub use reads::{ICFG, ICFG1, polled, polls, read};
+pub use writes::{convert, handled, light, timed, write, write_bank_at, write_chip};

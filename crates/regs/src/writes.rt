@@ -21,6 +21,7 @@ ghost use Rattle.regs.specs.Writes.{
   pins_written,
   lights_at,
   times_written,
+  bank_written_at,
   first_written,
   second_written,
   chip_written,
@@ -28,8 +29,8 @@ ghost use Rattle.regs.specs.Writes.{
   board_written,
 };
 
+use crate::reads::{BANK_BYTES, ICFG, ICFG1};
 use audio::Audio;
-use base::unless_wide;
 use irq::{Latch, write_bank};
 use panel::{Pins, Ramps, credit, fm1};
 use state::{Board, Chip};
@@ -38,6 +39,7 @@ use uart::Uart;
 
 // Whether a write sets `next_due` to 0: a timer or a DMA may have been programmed, so the next step looks at everything. Not the converter's words, whose conversions are
 // instant, nor the ports' (but for PD0, the flash's chip select), nor the counters' words that ignore writes: firmware writes those a million times a second.
+#[tactic(auto, unfolding(crate::specs::Writes::timed_at))]
 pub fn timed(addr: u32) -> bool
     ensures { result ≡ timed_at addr }
 {
@@ -49,6 +51,7 @@ pub fn timed(addr: u32) -> bool
 }
 
 // All six timers take the same three words.
+#[tactic(auto, unfolding(crate::specs::Writes::timers_take))]
 fn timers_take(addr: u32) -> bool
     ensures { result ≡ timers_take addr }
 {
@@ -56,6 +59,7 @@ fn timers_take(addr: u32) -> bool
     (0x10400 <= addr) & (addr <= 0x109ff) & ((at == 0) | (at == 4) | (at == 8))
 }
 
+#[tactic(auto, unfolding(crate::specs::Writes::wires_take))]
 fn wires_take(addr: u32) -> bool
     ensures { result ≡ wires_take addr }
 {
@@ -73,6 +77,7 @@ fn wires_take(addr: u32) -> bool
 }
 
 // What a write answers: false for a word that is plain storage as well, also where it acts (the UART's TX count, port A's direction, pull-ups and drive strength).
+#[tactic(auto, unfolding(crate::specs::Writes::handled_at))]
 pub fn handled(addr: u32) -> bool
     ensures { result ≡ handled_at addr }
 {
@@ -91,6 +96,7 @@ pub fn handled(addr: u32) -> bool
         | (addr == 0x501c0)
 }
 
+#[tactic(auto, unfolding(crate::specs::Writes::t4_written))]
 fn t4_write(t: T4, addr: u32, v: u32, now: u64) -> T4
     ensures { result ≡ t4_written t addr v now }
 {
@@ -101,6 +107,7 @@ fn t4_write(t: T4, addr: u32, v: u32, now: u64) -> T4
     }
 }
 
+#[tactic(auto, unfolding(crate::specs::Writes::t5_written))]
 fn t5_write(t: T5, addr: u32, v: u32, now: u64, hz: u32) -> T5
     requires { now ≤ clock_max }
     ensures { result ≡ t5_written t addr v now hz }
@@ -113,6 +120,7 @@ fn t5_write(t: T5, addr: u32, v: u32, now: u64, hz: u32) -> T5
 }
 
 // TIMER0 to 3, whose words begin at `base`.
+#[tactic(auto, unfolding(crate::specs::Writes::tmr_written))]
 fn tmr_write(t: Tmr, base: u32, addr: u32, v: u32, now: u64, hz: u32) -> Tmr
     requires { (now ≤ clock_max) × (base ≤ 0x10700) }
     ensures { result ≡ tmr_written t base addr v now hz }
@@ -130,19 +138,16 @@ fn tmr_write(t: Tmr, base: u32, addr: u32, v: u32, now: u64, hz: u32) -> Tmr
 }
 
 // The timer of a page, the last for a page of none.
+#[tactic(auto, unfolding(crate::specs::Writes::timer_on))]
 fn timer_on(t: [Tmr; 4], page: u32) -> Tmr
     ensures { result ≡ timer_on t page }
 {
-    if page == 0x104 {
-        return t[0];
+    match page {
+        0x104 => t[0],
+        0x105 => t[1],
+        0x106 => t[2],
+        _ => t[3],
     }
-    if page == 0x105 {
-        return t[1];
-    }
-    if page == 0x106 {
-        return t[2];
-    }
-    t[3]
 }
 
 fn put(t: Tmr, here: bool, x: Tmr) -> Tmr
@@ -176,6 +181,7 @@ fn tmrs_write(t: [Tmr; 4], addr: u32, v: u32, now: u64, hz: u32) -> [Tmr; 4]
     ]
 }
 
+#[tactic(auto, unfolding(crate::specs::Writes::audio_written))]
 fn audio_write(a: Audio, addr: u32, v: u32, now: u64, hz: u32) -> Audio
     requires { (a.len ≤ 65535) × (now ≤ clock_max) }
     ensures { result ≡ audio_written a addr v now hz }
@@ -191,6 +197,7 @@ fn audio_write(a: Audio, addr: u32, v: u32, now: u64, hz: u32) -> Audio
     }
 }
 
+#[tactic(auto, unfolding(crate::specs::Writes::tick_written))]
 fn tick_write(t: Tick, addr: u32, v: u32, now: u64, hz: u32) -> Tick
     requires { now ≤ clock_max }
     ensures { result ≡ tick_written t addr v now hz }
@@ -203,6 +210,7 @@ fn tick_write(t: Tick, addr: u32, v: u32, now: u64, hz: u32) -> Tick
     }
 }
 
+#[tactic(auto, unfolding(crate::specs::Writes::latch_written))]
 fn latch_write(l: Latch, addr: u32, v: u32) -> Latch
     ensures { result ≡ latch_written l addr v }
 {
@@ -213,6 +221,7 @@ fn latch_write(l: Latch, addr: u32, v: u32) -> Latch
     }
 }
 
+#[tactic(auto, unfolding(crate::specs::Writes::uart_written))]
 fn uart_write(u: Uart, addr: u32, v: u32) -> Uart
     ensures { result ≡ uart_written u addr v }
 {
@@ -228,6 +237,7 @@ fn uart_write(u: Uart, addr: u32, v: u32) -> Uart
 }
 
 // The words that drive LEDs credit the time so far first.
+#[tactic(auto, unfolding(crate::specs::Writes::pins_written))]
 fn pins_write(p: Pins, addr: u32, v: u32, now: u64) -> Pins
     requires { (p.led_last ≤ now) × (p.led_pend ≤ p.led_last) }
     ensures { result ≡ pins_written p addr v now }
@@ -251,6 +261,7 @@ fn lights(addr: u32) -> bool
 }
 
 // The LEDs' times before such a write: what was lit so far is charged.
+#[tactic(auto, unfolding(crate::specs::Writes::times_written))]
 pub fn light(acc: &mut [u64; 41], pins: Pins, addr: u32, now: u64)
     ensures { acc.new ≡ times_written pins addr now acc.old }
 {
@@ -260,16 +271,18 @@ pub fn light(acc: &mut [u64; 41], pins: Pins, addr: u32, now: u64)
 }
 
 // A write, but for the banks', the converter's and the LEDs' times: each block takes the words that are its own.
+#[tactic(auto, using(base::specs::Tests::tests), unfolding(crate::specs::Writes::chip_written))]
 pub fn write_chip(mut c: Chip, addr: u32, v: u32) -> Chip
     requires { ChipOk c }
     ensures { result ≡ chip_written c addr v }
 {
     let now = c.clock.cycles;
     let hz = c.clock.hz;
-    let due = unless_wide(timed(addr), c.clock.next_due);
     let t = c.tmr;
     let tmr = tmrs_write(t, addr, v, now, hz);
-    c.clock.next_due = due;
+    if timed(addr) {
+        c.clock.next_due = 0;
+    }
     c.t4 = t4_write(c.t4, addr, v, now);
     c.t5 = t5_write(c.t5, addr, v, now, hz);
     c.tmr = tmr;
@@ -282,55 +295,45 @@ pub fn write_chip(mut c: Chip, addr: u32, v: u32) -> Chip
 }
 
 // A write of the converter's CON (0x13100): a conversion is instant, and timed only where it moves the interrupt's line.
-pub fn convert(mut c: Chip, ramps: Ramps, values: [u16; 16], v: u32) -> Chip
-    requires { RampsShort ramps }
-    ensures { result ≡ adc_written c ramps values v }
+#[tactic(auto, unfolding(crate::specs::Writes::adc_written))]
+pub fn convert(mut c: Chip, ramps: &Ramps, values: &[u16; 16], v: u32) -> Chip
+    requires { RampsShort ramps.now }
+    ensures { result ≡ adc_written c ramps.now values.now v }
 {
     let w = c
         .adc
         .write_con(fm1(), c.pins, ramps, values, c.clock.cycles, v);
-    let due = unless_wide(w.due, c.clock.next_due);
+    if w.due {
+        c.clock.next_due = 0;
+    }
     let a = w.adc;
-    c.clock.next_due = due;
     c.adc = a;
     c
 }
 
-// The banks, each by the addresses of its own.
-pub fn first_write(bank: &mut [u32], addr: u32, v: u32)
+// A bank whose words begin at `from`, by the addresses of its own.
+pub fn write_bank_at(bank: &mut [u32], from: u32, addr: u32, v: u32)
     requires { length bank.old ≡ bank_words }
-    ensures { bank.new ≡ first_written bank.old addr v }
+    ensures { bank.new ≡ bank_written_at bank.old from addr v }
 {
-    if 0x1eef100 <= addr {
-        if addr <= 0x1eef17f {
-            write_bank(bank, addr - 0x1eef100, v);
-        }
-    }
-}
-
-pub fn second_write(bank: &mut [u32], addr: u32, v: u32)
-    requires { length bank.old ≡ bank_words }
-    ensures { bank.new ≡ second_written bank.old addr v }
-{
-    if 0x1eef300 <= addr {
-        if addr <= 0x1eef37f {
-            write_bank(bank, addr - 0x1eef300, v);
-        }
+    if from <= addr && addr - from < BANK_BYTES {
+        write_bank(bank, addr - from, v);
     }
 }
 
 // The whole of a write; what it answers is `handled(addr)`.
+#[tactic(auto, unfolding(crate::specs::Writes::board_written, crate::specs::Writes::first_written, crate::specs::Writes::second_written))]
 pub fn write(mut b: Board, icfg: &mut [u32], icfg1: &mut [u32], addr: u32, v: u32) -> Board
     requires { Sound b × (length icfg.old ≡ bank_words) × (length icfg1.old ≡ bank_words) }
     ensures value { result ≡ board_written b addr v }
     ensures first { icfg.new ≡ first_written icfg.old addr v }
     ensures second { icfg1.new ≡ second_written icfg1.old addr v }
 {
-    first_write(icfg, addr, v);
-    second_write(icfg1, addr, v);
+    write_bank_at(icfg, ICFG, addr, v);
+    write_bank_at(icfg1, ICFG1, addr, v);
     let c = b.chip;
     if addr == 0x13100 {
-        let d = convert(c, b.panel.ramps, b.panel.values, v);
+        let d = convert(c, &b.panel.ramps, &b.panel.values, v);
         b.chip = d;
         return b;
     }

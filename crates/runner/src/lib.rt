@@ -33,10 +33,9 @@ ghost use Rattle.runner.specs.Runner.{
   with_spi2,
   with_usb,
   with_wdt,
-  flag_of,
 };
 
-use base::{NEVER, least, most, unless_wide};
+use base::NEVER;
 use irq::Choice;
 use panel::{fm1, led_take as taken};
 use state::{Board, Chip, Panel};
@@ -49,8 +48,7 @@ pub fn tick(mut c: Chip) -> Chip
     requires { c.clock.cycles ≤ clock_max }
     ensures { result ≡ ticked_of c }
 {
-    let now = c.clock.cycles + 1;
-    c.clock.cycles = now;
+    c.clock.cycles += 1;
     c
 }
 
@@ -68,7 +66,7 @@ pub fn tick_room(c: Chip) -> u64
 {
     let next = c.clock.cycles + 1;
     if next < c.clock.next_due {
-        return least(c.clock.next_due - next, c.clock.room_cap);
+        return (c.clock.next_due - next).min(c.clock.room_cap);
     }
     0
 }
@@ -111,11 +109,11 @@ fn jumped(mut c: Chip, end: u64) -> Chip
     ensures { result ≡ jump_to c end }
 {
     let now = c.clock.cycles;
-    let skipped = std::num::wrapping_add_u64(c.clock.skipped, most(end, now) - now);
-    let due = unless_wide(now < end, c.clock.next_due);
     c.clock.cycles = end;
-    c.clock.skipped = skipped;
-    c.clock.next_due = due;
+    c.clock.skipped = c.clock.skipped.wrapping_add(end.saturating_sub(now));
+    if now < end {
+        c.clock.next_due = 0;
+    }
     c
 }
 
@@ -135,7 +133,7 @@ pub fn any_pending(c: Chip) -> bool
     c.pending().any_pending()
 }
 
-pub fn pending_irq_for<'a>(c: Chip, core: u32, icfg: &'a [u32], icfg1: &'a [u32]) -> Choice
+pub fn pending_irq_for<'a>(c: Chip, core: u32, icfg: &'a [u32], icfg1: &'a [u32]) -> Option<Choice>
     requires { (length icfg.now ≡ bank_words) × (length icfg1.now ≡ bank_words) }
     ensures { result ≡ choice_of (pending_of c) core icfg.now icfg1.now }
 {
@@ -150,12 +148,12 @@ pub fn spi1_start(mut c: Chip, bytes: u32, baud: u32, irq: bool) -> Chip
     requires { (bytes ≤ spi_bytes_max) × (baud ≤ spi_baud_max) × (c.clock.cycles ≤ clock_max) × (c.spi.spi1_wire < 2 ^ 62) }
     ensures { result ≡ spi1_of c bytes baud irq }
 {
-    let s = c
+    c.spi = c
         .spi
         .spi1_start(bytes, baud, irq, c.clock.cycles, c.clock.hz);
-    let due = unless_wide(irq, c.clock.next_due);
-    c.spi = s;
-    c.clock.next_due = due;
+    if irq {
+        c.clock.next_due = 0;
+    }
     c
 }
 
@@ -163,8 +161,7 @@ pub fn spi1_start(mut c: Chip, bytes: u32, baud: u32, irq: bool) -> Chip
 pub fn spi1_irq_off(mut c: Chip) -> Chip
     ensures { result ≡ spi1_off_of c }
 {
-    let s = c.spi.spi1_irq_off();
-    c.spi = s;
+    c.spi = c.spi.spi1_irq_off();
     c
 }
 
@@ -173,10 +170,9 @@ pub fn spi2_start(mut c: Chip, bytes: u32, baud: u32, irq: bool) -> Chip
     requires { (bytes ≤ spi_bytes_max) × (baud ≤ spi_baud_max) × (c.clock.cycles ≤ clock_max) }
     ensures { result ≡ spi2_of c bytes baud irq }
 {
-    let s = c
+    c.spi = c
         .spi
         .spi2_start(bytes, baud, irq, c.clock.cycles, c.clock.hz);
-    c.spi = s;
     c.clock.next_due = 0;
     c
 }
@@ -186,8 +182,7 @@ pub fn spi2_start(mut c: Chip, bytes: u32, baud: u32, irq: bool) -> Chip
 pub fn sr_shift_byte(mut c: Chip, b: u8) -> Chip
     ensures { result ≡ shifted_of c b }
 {
-    let p = c.pins.sr_shift_byte(b);
-    c.pins = p;
+    c.pins = c.pins.sr_shift_byte(b);
     c
 }
 
@@ -223,39 +218,25 @@ pub fn led_take(b: Board) -> Light
     ensures { result ≡ light_of b }
 {
     let mut c = b.chip;
-    let p = b.panel;
-    let acc = p.acc;
-    let ramps = p.ramps;
-    let values = p.values;
-    let dark = [0u64; 41];
+    // arrays go through variables: one that is stored straight has no generated proof
+    let acc = b.panel.acc;
+    let values = b.panel.values;
     let t = taken(acc, fm1(), c.pins, c.clock.cycles);
-    let pins = t.pins;
     let lit = t.lit;
-    c.pins = pins;
-    let q = Panel {
-        acc: dark,
-        ramps: ramps,
-        values: values,
+    c.pins = t.pins;
+    let panel = Panel {
+        acc: [0; 41],
+        ramps: b.panel.ramps,
+        values,
     };
-    let d = Board { chip: c, panel: q };
     Light {
-        board: d,
-        lit: lit,
+        board: Board { chip: c, panel },
+        lit,
         span: t.span,
     }
 }
 
 // ---- settings
-
-// A flag as the chip keeps it.
-fn flag(on: bool) -> u32
-    ensures { result ≡ flag_of on }
-{
-    if on {
-        return 1;
-    }
-    0
-}
 
 pub fn set_cycle_ticks(mut c: Chip, ticks: u64) -> Chip
     ensures { result ≡ with_ticks c ticks }
@@ -268,8 +249,7 @@ pub fn set_cycle_ticks(mut c: Chip, ticks: u64) -> Chip
 pub fn set_skip_idle(mut c: Chip, on: bool) -> Chip
     ensures { result ≡ with_skip c on }
 {
-    let f = flag(on);
-    c.clock.skip_idle = f;
+    c.clock.skip_idle = u32::from(on);
     c
 }
 
@@ -277,8 +257,7 @@ pub fn set_skip_idle(mut c: Chip, on: bool) -> Chip
 pub fn set_in_isr(mut c: Chip, on: bool) -> Chip
     ensures { result ≡ with_isr c on }
 {
-    let f = flag(on) as u64;
-    c.clock.in_isr = f;
+    c.clock.in_isr = u64::from(on);
     c
 }
 
@@ -293,8 +272,7 @@ pub fn set_room_cap(mut c: Chip, cap: u64) -> Chip
 pub fn set_exc_pending(mut c: Chip, on: bool) -> Chip
     ensures { result ≡ with_exc c on }
 {
-    let f = flag(on);
-    c.latch.exc_pending = f;
+    c.latch.exc_pending = u32::from(on);
     c
 }
 
@@ -302,8 +280,7 @@ pub fn set_exc_pending(mut c: Chip, on: bool) -> Chip
 pub fn set_spi2_pending(mut c: Chip, on: bool) -> Chip
     ensures { result ≡ with_spi2 c on }
 {
-    let f = flag(on);
-    c.spi.spi2_pending = f;
+    c.spi.spi2_pending = u32::from(on);
     c
 }
 

@@ -9,12 +9,14 @@ use lib.Dec.{eqb}
 use lib.ListN.{length, set}
 use lib.Seq.{get_or-set_same, get_or-set_other}
 use borrow.Author.Tests.{eq-eqb, eqb-true, eqb-false}
+use Rattle.std.specs.Prelude.{Some, None, Result, Ok, Err}
+use Rattle.base.specs.declared.Refusal.{Refusal}
 use Rattle.script.specs.declared.Script.{Script}
 use Rattle.script.specs.declared.Entry.{Entry}
 use Rattle.script.specs.Script.{spot_of, pushed_of, next_place}
-use Rattle.script.specs.Entries.{no_entry, entries_at, front_of, agrees_of, lent_refused, pushes, push_of, push_in, take_of}
+use Rattle.script.specs.Entries.{no_entry, entries_at, front_of, agrees_of, lent_of, room_of, unless_refused, is_done, push_of, push_in, ring_pushed, take_of, ring_taken}
 use Rattle.script.proofs.Refusals.{push_ok, Room}
-use Rattle.script.proofs.Contents.{by}
+use Rattle.script.proofs.Contents.{front}
 
 abbrev pub Agrees : Script → List Entry → Type 0
 Agrees s ys = agrees_of s (front_of ys s.place) ≡ true
@@ -41,18 +43,19 @@ module _ (s : Script) (ys : List Entry) (e : Entry) where
       or-in u (eqb (entries_at (set ys (spot_of s) e) s.place).at s.at)
       (rw (get_or-set_other ys (spot_of s) s.place e no_entry apart) h)
 
-  push_at : (t : Bool) → pushes s (length ys) ≡ t → Agrees s ys → Agrees (cond t (pushed_of s e.at) s) (cond t (set ys (spot_of s) e) ys)
-  push_at true ok h = front_at (eqb (s.count + 1) 0) (eqb s.count 0) (push_ok s (length ys) ok) refl h
-  push_at false ok h = h
+  push_at : (o : Result (Unit {0}) Refusal) → room_of s (length ys) ≡ o → Agrees s ys
+      → Agrees (ring_pushed s (unless_refused o (pushed_of s e.at))) (cond (is_done o) (set ys (spot_of s) e) ys)
+  push_at (Ok u) is h = front_at (eqb (s.count + 1) 0) (eqb s.count 0) (push_ok s (length ys) (ap (λ o. is_done o) is)) refl h
+  push_at (Err r) is h = h
 
-  pub push-agrees : Agrees s ys → Agrees (push_of s (length ys) e).ring (push_in s ys e)
-  push-agrees h = push_at (pushes s (length ys)) refl h
+  pub push-agrees : Agrees s ys → Agrees (ring_pushed s (push_of s (length ys) e)) (push_in s ys e)
+  push-agrees h = push_at (room_of s (length ys)) refl h
 
 module _ (s : Script) (ys : List Entry) where
-  take_at : (t z : Bool) → Agrees s ys → Agrees (by s ys t z).ring ys
-  take_at true true h = h
-  take_at true false h = or-in (eqb (s.count - 1) 0) (eqb (entries_at ys (next_place s)).at (entries_at ys (next_place s)).at) (eq-eqb (entries_at ys (next_place s)).at (entries_at ys (next_place s)).at refl)
-  take_at false z h = h
+  take_at : (o : Result (Unit {0}) Refusal) (z : Bool) → Agrees s ys → Agrees (ring_taken s (unless_refused o (cond z None (Some (front s ys))))) ys
+  take_at (Ok u) true h = h
+  take_at (Ok u) false h = or-in (eqb (s.count - 1) 0) (eqb (entries_at ys (next_place s)).at (entries_at ys (next_place s)).at) (eq-eqb (entries_at ys (next_place s)).at (entries_at ys (next_place s)).at refl)
+  take_at (Err r) z h = h
 
-  pub take-agrees : Agrees s ys → Agrees (take_of s ys).ring ys
-  take-agrees h = take_at (eqb (lent_refused s (length ys)) 0) (eqb s.count 0) h
+  pub take-agrees : Agrees s ys → Agrees (ring_taken s (take_of s ys)) ys
+  take-agrees h = take_at (lent_of s (length ys)) (eqb s.count 0) h

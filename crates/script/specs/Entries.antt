@@ -1,13 +1,13 @@
 -- The lent entries: what stands at a place, what the ring holds, and what look, push and take answer.
-use Rattle.std.specs.Prelude.{ℕ, Bool, true, false, cond, not, ◌||◌, List, eqb, length, get_or, set}
-use Rattle.base.specs.Refusals.{SIZE, STATE, FULL}
+use Rattle.std.specs.Prelude.{ℕ, Bool, true, false, cond, not, ◌||◌, List, Option, Some, None, Result, Ok, Err, eqb, length, get_or, set}
+use Rattle.base.specs.declared.Refusal.{Refusal}
+use Rattle.base.specs.declared.Refusal.TheVariants.{Size, State, Full}
 use Rattle.base.specs.Ring.{ring}
 use Rattle.records.specs.declared.Action.TheVariants.{Key}
 use Rattle.script.specs.declared.Script.{Script}
 use Rattle.script.specs.declared.Entry.{Entry}
 use Rattle.script.specs.declared.Front.{Front}
 use Rattle.script.specs.declared.Spot.{Spot}
-use Rattle.script.specs.declared.Pushed.{Pushed}
 use Rattle.script.specs.declared.Took.{Took}
 use Rattle.script.specs.Script.{entries, script_whole, spot_of, full_of, pushed_of, looked_of, next_place, taken_of}
 
@@ -35,52 +35,60 @@ front_of ys i = shown (length ys) (entries_at ys i)
 abbrev pub agrees_of : Script → Front → Bool
 agrees_of s f = eqb s.count 0 || eqb f.entry.at s.at
 
--- ---- refusals, 0 for none
+-- ---- refusals
 
 -- "2 SIZE: a lent length differs"; "3 STATE: the record is not whole"
-abbrev pub lent_refused : Script → ℕ → ℕ
-lent_refused s n = cond (not (eqb n entries)) SIZE (cond (script_whole s) 0 STATE)
+abbrev pub lent_of : Script → ℕ → Result (Unit {0}) Refusal
+lent_of s n = cond (not (eqb n entries)) (Err Size) (cond (script_whole s) (Ok tt) (Err State))
 
 -- "5 FULL: a push onto 256 waiting script entries"
-abbrev pub push_refused : Script → ℕ → ℕ
-push_refused s n = cond (not (eqb (lent_refused s n) 0)) (lent_refused s n) (cond (full_of s) FULL 0)
+abbrev pub room_of : Script → ℕ → Result (Unit {0}) Refusal
+room_of s n = cond (not (eqb n entries)) (Err Size) (cond (script_whole s) (cond (full_of s) (Err Full) (Ok tt)) (Err State))
+
+-- an answer, unless the call is refused
+abbrev pub unless_refused : {A : Type 0} → Result (Unit {0}) Refusal → A → Result A Refusal
+unless_refused (Ok _) a = Ok a
+unless_refused (Err refusal) a = Err refusal
+
+abbrev pub is_done : {A : Type 0} → Result A Refusal → Bool
+is_done (Ok _) = true
+is_done (Err _) = false
 
 -- ---- a push
 
 abbrev pub pushes : Script → ℕ → Bool
-pushes s n = eqb (push_refused s n) 0
+pushes s n = is_done (room_of s n)
 
-abbrev pub spot_for : Script → ℕ → Entry → Spot
-spot_for s n e =
-    record {
-      ring = cond (pushes s n) (pushed_of s e.at) s;
-      place = spot_of s;
-      refused = push_refused s n;
-      ok = pushes s n;
-    }
+abbrev pub spot_for : Script → ℕ → Entry → Result Spot Refusal
+spot_for s n e = unless_refused (room_of s n) (record { ring = pushed_of s e.at; place = spot_of s })
 
-abbrev pub stored_of : Spot → Pushed
-stored_of p = record { ring = p.ring; refused = p.refused }
-
--- the answer: the ring with one more, or as it was
-abbrev pub push_of : Script → ℕ → Entry → Pushed
-push_of s n e = stored_of (spot_for s n e)
+-- the answer: the ring with one more
+abbrev pub push_of : Script → ℕ → Entry → Result Script Refusal
+push_of s n e = unless_refused (room_of s n) (pushed_of s e.at)
 
 -- the lent entries after it: the entry in its spot, or all as they were
 abbrev pub push_in : Script → List Entry → Entry → List Entry
 push_in s ys e = cond (pushes s (length ys)) (set ys (spot_of s) e) ys
 
+-- the ring that its holder goes on with: after a refusal its own
+abbrev pub ring_pushed : Script → Result Script Refusal → Script
+ring_pushed s (Ok ring) = ring
+ring_pushed s (Err _) = s
+
 -- ---- a take
 
-abbrev pub not_taken : Script → ℕ → Took
-not_taken s k = record { ring = s; entry = no_entry; refused = k; some = false }
-
 -- by what stands at the front and behind it
-abbrev pub take_at : Script → Front → Front → Took
-take_at s f n =
-    cond (not (eqb (lent_refused s f.len) 0)) (not_taken s (lent_refused s f.len))
-    (cond (eqb s.count 0) (not_taken s 0)
-    (record { ring = looked_of (taken_of s) n.entry.at; entry = f.entry; refused = 0; some = true }))
+abbrev pub took_of : Script → Front → Front → Option Took
+took_of s f n = cond (eqb s.count 0) None (Some (record { ring = looked_of (taken_of s) n.entry.at; entry = f.entry }))
 
-abbrev pub take_of : Script → List Entry → Took
+abbrev pub take_at : Script → Front → Front → Result (Option Took) Refusal
+take_at s f n = unless_refused (lent_of s f.len) (took_of s f n)
+
+abbrev pub take_of : Script → List Entry → Result (Option Took) Refusal
 take_of s ys = take_at s (front_of ys s.place) (front_of ys (next_place s))
+
+-- the ring that its holder goes on with: where none is taken its own
+abbrev pub ring_taken : Script → Result (Option Took) Refusal → Script
+ring_taken s (Ok (Some t)) = t.ring
+ring_taken s (Ok None) = s
+ring_taken s (Err _) = s

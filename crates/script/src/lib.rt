@@ -2,7 +2,7 @@
 // front's time, so that the next event is known without the entries. Times need not be sorted; the front alone is looked at.
 //
 // Lend the same entries to each call and go on with the ring that it answers: `push` puts an entry behind the last, `look` shows what stands at a place,
-// `take` takes the front. A call that is refused says why by document 01's number (0: done) and leaves ring and entries as they were. Whoever holds
+// `take` takes the front. A call that is refused says why and leaves the entries as they were; the ring is then the one that was lent. Whoever holds
 // the script as plain words, two an entry, reads them by `entry_of`, and goes by the ring's own functions.
 #![tactic(auto)]
 
@@ -21,26 +21,22 @@ ghost use Rattle.script.specs.Script.{
 };
 ghost use Rattle.script.specs.Entries.{
   no_entry,
-  shown,
   front_of,
   agrees_of,
-  lent_refused,
-  push_refused,
+  lent_of,
   spot_for,
-  stored_of,
   push_of,
   push_in,
-  not_taken,
   take_at,
   take_of,
 };
 ghost use Rattle.script.specs.Words.{packed, word_of, action_of, entry_of, places_of};
 
-use base::{FULL, NEVER, SIZE, STATE};
+use base::{NEVER, Refusal};
 use records::Action;
 
 #[repr(C)]
-#[derive(Clone, Copy)]
+#[derive(Clone, Copy, Debug, PartialEq, Eq)]
 pub struct Script {
     // the front's time, while any wait
     pub at: u64,
@@ -48,41 +44,31 @@ pub struct Script {
     pub count: u32,
 }
 
-#[derive(Clone, Copy)]
+#[derive(Clone, Copy, Debug, PartialEq, Eq)]
 pub struct Entry {
     pub at: u64,
     pub action: Action,
 }
 
-// What a script shows at a place: its length, and the entry there, or none past the end.
-#[derive(Clone, Copy)]
+// What a script shows at a place: its length, and the entry there. It is no Option past the end: the step and its theorems look by a function from places (`ran`), where each place has an entry.
+#[derive(Clone, Copy, Debug, PartialEq, Eq)]
 pub struct Front {
     pub len: usize,
     pub entry: Entry,
 }
 
-// Where a push puts its entry, and the ring then. A refused push has `ok` false, and the ring as it was.
-#[derive(Clone, Copy)]
+// Where a push puts its entry, and the ring then.
+#[derive(Clone, Copy, Debug, PartialEq, Eq)]
 pub struct Spot {
     pub ring: Script,
     pub place: usize,
-    pub refused: u32,
-    pub ok: bool,
 }
 
-#[derive(Clone, Copy)]
-pub struct Pushed {
-    pub ring: Script,
-    pub refused: u32,
-}
-
-// The front, where `some`.
-#[derive(Clone, Copy)]
+// The front, and the ring without it.
+#[derive(Clone, Copy, Debug, PartialEq, Eq)]
 pub struct Took {
     pub ring: Script,
     pub entry: Entry,
-    pub refused: u32,
-    pub some: bool,
 }
 
 pub const ENTRIES: u32 = 256;
@@ -152,18 +138,10 @@ impl Script {
         requires { self.count < entries }
         ensures { result ≡ pushed_of self at }
     {
-        let count = self.count + 1;
-        if self.count != 0 {
-            return Script {
-                at: self.at,
-                place: self.place,
-                count: count,
-            };
-        }
         Script {
-            at: at,
+            at: if self.count == 0 { at } else { self.at },
             place: self.place,
-            count: count,
+            count: self.count + 1,
         }
     }
 
@@ -172,7 +150,7 @@ impl Script {
         ensures { result ≡ looked_of self at }
     {
         Script {
-            at: at,
+            at,
             place: self.place,
             count: self.count,
         }
@@ -194,123 +172,57 @@ impl Script {
     pub fn agrees(self, front: Front) -> bool
         ensures { result ≡ agrees_of self front }
     {
-        let e = front.entry;
-        (self.count == 0) | (e.at == self.at)
+        (self.count == 0) | (front.entry.at == self.at)
     }
 
-    // Why `len` lent entries and this ring are refused, 0 if they are not.
-    fn lent_refused(self, len: usize) -> u32
-        ensures { result ≡ lent_refused self len }
+    // Whether `len` lent entries and this ring can be used.
+    fn lent(self, len: usize) -> Result<(), Refusal>
+        ensures { result ≡ lent_of self len }
     {
-        if len != ENTRIES as usize {
-            return SIZE;
+        if len != SCRIPT_LEN {
+            return Err(Refusal::Size);
         }
-        if self.whole() {
-            return 0;
+        if !self.whole() {
+            return Err(Refusal::State);
         }
-        STATE
-    }
-
-    // The same of a push.
-    fn push_refused(self, len: usize) -> u32
-        ensures { result ≡ push_refused self len }
-    {
-        let refused = self.lent_refused(len);
-        if refused != 0 {
-            return refused;
-        }
-        if self.full() {
-            return FULL;
-        }
-        0
+        Ok(())
     }
 
     // What a push does to a ring of `len` lent entries.
-    pub fn spot_for(self, len: usize, e: Entry) -> Spot
+    pub fn spot_for(self, len: usize, e: Entry) -> Result<Spot, Refusal>
         ensures { result ≡ spot_for self len e }
     {
-        let refused = self.push_refused(len);
-        let place = self.spot();
-        if refused == 0 {
-            return Spot {
-                ring: self.pushed(e.at),
-                place: place,
-                refused: 0,
-                ok: true,
-            };
+        self.lent(len)?;
+        if self.full() {
+            return Err(Refusal::Full);
         }
-        Spot {
-            ring: self,
-            place: place,
-            refused: refused,
-            ok: false,
-        }
+        Ok(Spot {
+            ring: self.pushed(e.at),
+            place: self.spot(),
+        })
     }
 
-    fn not_taken(self, refused: u32) -> Took
-        ensures { result ≡ not_taken self refused }
-    {
-        Took {
-            ring: self,
-            entry: no_entry(),
-            refused: refused,
-            some: false,
-        }
-    }
-
-    // What a take answers, by what stands at the front and behind it.
-    pub fn take_at(self, front: Front, next: Front) -> Took
+    // What a take answers, by what stands at the front and behind it: the front, where one waits.
+    pub fn take_at(self, front: Front, next: Front) -> Result<Option<Took>, Refusal>
         ensures { result ≡ take_at self front next }
     {
-        let refused = self.lent_refused(front.len);
-        if refused != 0 {
-            return self.not_taken(refused);
+        self.lent(front.len)?;
+        if self.count == 0 {
+            return Ok(None);
         }
-        let waiting = self.count;
-        if waiting == 0 {
-            return self.not_taken(0);
-        }
-        let e = front.entry;
-        let n = next.entry;
-        let ring = self.taken();
-        Took {
-            ring: ring.looked(n.at),
-            entry: e,
-            refused: 0,
-            some: true,
-        }
+        Ok(Some(Took {
+            ring: self.taken().looked(next.entry.at),
+            entry: front.entry,
+        }))
     }
 }
 
 fn no_entry() -> Entry
     ensures { result ≡ no_entry }
 {
-    let a = Action::Key { id: 0, down: false };
-    Entry { at: 0, action: a }
-}
-
-fn found(len: usize, e: Entry) -> Front
-    ensures { result ≡ shown len e }
-{
-    Front { len: len, entry: e }
-}
-
-fn nothing(len: usize) -> Front
-    ensures { result ≡ shown len no_entry }
-{
-    Front {
-        len: len,
-        entry: no_entry(),
-    }
-}
-
-fn stored(s: Spot) -> Pushed
-    ensures { result ≡ stored_of s }
-{
-    let ring = s.ring;
-    Pushed {
-        ring: ring,
-        refused: s.refused,
+    Entry {
+        at: 0,
+        action: Action::Key { id: 0, down: false },
     }
 }
 
@@ -320,28 +232,26 @@ fn stored(s: Spot) -> Pushed
 pub fn look(script: &[Entry], place: usize) -> Front
     ensures { result ≡ front_of script.now place }
 {
-    let n = script.len();
-    if place < n {
-        found(n, script[place])
+    let len = script.len();
+    let entry = if place < len {
+        script[place]
     } else {
-        nothing(n)
-    }
+        no_entry()
+    };
+    Front { len, entry }
 }
 
-// An entry goes behind the last.
-pub fn push(ring: Script, script: &mut [Entry], e: Entry) -> Pushed
+// An entry goes behind the last. A refused push leaves the entries as they were.
+pub fn push(ring: Script, script: &mut [Entry], e: Entry) -> Result<Script, Refusal>
     ensures { (result ≡ push_of ring (length script.old) e) × (script.new ≡ push_in ring script.old e) }
 {
-    let s = ring.spot_for(script.len(), e);
-    if s.ok {
-        let p = s.place;
-        script[p] = e;
-    }
-    stored(s)
+    let spot = ring.spot_for(script.len(), e)?;
+    script[spot.place] = e;
+    Ok(spot.ring)
 }
 
-// The front leaves, and the entry behind it tells the ring its time.
-pub fn take(ring: Script, script: &[Entry]) -> Took
+// The front leaves, and the entry behind it tells the ring its time. There is none where none waits.
+pub fn take(ring: Script, script: &[Entry]) -> Result<Option<Took>, Refusal>
     ensures { result ≡ take_of ring script.now }
 {
     let front = look(script, ring.front_place());
@@ -351,7 +261,7 @@ pub fn take(ring: Script, script: &[Entry]) -> Took
 
 // ---- the script as plain words, two an entry: the time, and the action
 
-// An action as a word: its kind in the lowest three bits, its first field in the next eight, its second above.
+// An action as a word: its kind in the lowest three bits, its first field in the next eight, its second above. The kinds' numbers are the C interface's.
 pub fn word_of(a: Action) -> u64
     ensures { result ≡ word_of a }
 {
@@ -376,43 +286,36 @@ fn pack(kind: u8, first: u8, second: u32) -> u64
 pub fn action_of(w: u64) -> Action
     ensures { result ≡ action_of w }
 {
-    let kind = w % 8;
     let first = (w / 8 % 0x100) as u8;
-    if kind == 0 {
-        return Action::Key {
+    match w % 8 {
+        0 => Action::Key {
             id: first,
             down: w / 0x800 % 2 == 1,
-        };
-    }
-    if kind == 1 {
-        return Action::Enc {
+        },
+        1 => Action::Enc {
             enc: first,
             clicks: (w / 0x800 % 0x1_0000_0000) as u32,
-        };
-    }
-    if kind == 2 {
-        return Action::Adc {
+        },
+        2 => Action::Adc {
             ch: first,
             value: (w / 0x800 % 0x1_0000) as u16,
-        };
-    }
-    if kind == 3 {
-        return Action::Midi { b: first };
-    }
-    if kind == 4 {
-        return Action::KeyVel { vel: first };
-    }
-    Action::Pressure {
-        id: first,
-        vel: (w / 0x800 % 0x100) as u8,
+        },
+        3 => Action::Midi { b: first },
+        4 => Action::KeyVel { vel: first },
+        _ => Action::Pressure {
+            id: first,
+            vel: (w / 0x800 % 0x100) as u8,
+        },
     }
 }
 
 pub fn entry_of(at: u64, w: u64) -> Entry
     ensures { result ≡ entry_of at w }
 {
-    let a = action_of(w);
-    Entry { at: at, action: a }
+    Entry {
+        at,
+        action: action_of(w),
+    }
 }
 
 // How many entries so many words are. An odd number of words is no script.

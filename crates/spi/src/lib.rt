@@ -38,6 +38,7 @@ impl Spi {
     }
 
     // A transfer of SPI1: its end, its time on the wire, and with `irq` its interrupt.
+    #[tactic(auto, unfolding(crate::specs::Spi::spi1_started))]
     pub fn spi1_start(mut self, bytes: u32, baud: u32, irq: bool, now: u64, hz: u32) -> Self
         requires { (bytes ≤ spi_bytes_max) × (baud ≤ spi_baud_max) × (now ≤ clock_max) × (self.spi1_wire < 2 ^ 62) }
         ensures { result ≡ spi1_started self bytes baud irq now hz }
@@ -48,7 +49,6 @@ impl Spi {
         self.spi1_wire = self.spi1_wire + time.0;
         if irq {
             self.spi1_irq_at = done;
-            return self;
         }
         self
     }
@@ -63,18 +63,19 @@ impl Spi {
     }
 
     // A transfer of SPI2; only its interrupt has a time.
+    #[tactic(auto, unfolding(crate::specs::Spi::spi2_started))]
     pub fn spi2_start(mut self, bytes: u32, baud: u32, irq: bool, now: u64, hz: u32) -> Self
         requires { (bytes ≤ spi_bytes_max) × (baud ≤ spi_baud_max) × (now ≤ clock_max) }
         ensures { result ≡ spi2_started self bytes baud irq now hz }
     {
         if irq {
             self.spi2_next = now + times::spi2_cycles(bytes, baud, hz).0;
-            return self;
         }
         self
     }
 
     // What the moment makes of each. SPI2 comes first in a step.
+    #[tactic(auto, unfolding(crate::specs::Spi::spi2_at))]
     pub fn spi2_at(mut self, now: u64) -> Self
         ensures { result ≡ spi2_at self now }
     {
@@ -86,6 +87,7 @@ impl Spi {
         self
     }
 
+    #[tactic(auto, unfolding(crate::specs::Spi::spi1_at))]
     pub fn spi1_at(mut self, now: u64) -> Self
         ensures { result ≡ spi1_at self now }
     {
@@ -101,7 +103,7 @@ impl Spi {
     pub fn next_event(self) -> u64
         ensures { result ≡ spi_next self }
     {
-        base::least(self.spi1_irq_at, self.spi2_next)
+        self.spi1_irq_at.min(self.spi2_next)
     }
 
     // Its part of a whole record.

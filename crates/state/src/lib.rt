@@ -29,7 +29,7 @@ ghost use Rattle.base.specs.Moments.{clock_max};
 
 use adc::Adc;
 use audio::Audio;
-use base::{NEVER, RATE_MAX, RATE_MIN, is_clock, is_deadline, least, rearmed};
+use base::{NEVER, RATE_MAX, RATE_MIN, is_clock, is_deadline, rearmed};
 use irq::{Latch, Pending};
 use panel::{Enc, Keys, Pins, Ramps, encs_next, encs_whole, times_whole};
 use script::Script;
@@ -139,6 +139,7 @@ impl Host {
     }
 
     // A frame that is due is rearmed.
+    #[tactic(auto, using(base::specs::Tests::tests), unfolding(crate::specs::State::usb_at))]
     pub fn usb_at(mut self, now: u64) -> Self
         requires { HostOk self × (now ≤ clock_max) }
         ensures { result ≡ usb_at self now }
@@ -151,6 +152,7 @@ impl Host {
     }
 
     // The watchdog runs out once.
+    #[tactic(auto, using(base::specs::Tests::tests), unfolding(crate::specs::State::wdt_at_of))]
     pub fn wdt_at(mut self, now: u64) -> Self
         ensures { result ≡ wdt_at_of self now }
     {
@@ -173,22 +175,24 @@ impl Host {
 
 impl Chip {
     // When the next timed event comes.
+    #[tactic(auto, using(base::specs::Tests::tests), unfolding(crate::specs::State::next_event))]
     pub fn next_event(self) -> u64
         ensures { result ≡ next_event self }
     {
         let t = self.tmr;
         let e = self.enc;
-        let timers = least(least(self.t5.next, self.tick.next), tmrs_next(t));
-        let wires = least(
-            self.spi.next_event(),
-            least(self.audio.next, self.uart.next_event()),
-        );
-        let host = least(self.host.usb_next, self.host.wdt_at);
-        let front = least(encs_next(e), self.script.front_time());
-        least(least(timers, wires), least(host, front))
+        let timers = self.t5.next.min(self.tick.next).min(tmrs_next(t));
+        let wires = self
+            .spi
+            .next_event()
+            .min(self.audio.next.min(self.uart.next_event()));
+        let host = self.host.usb_next.min(self.host.wdt_at);
+        let front = encs_next(e).min(self.script.front_time());
+        timers.min(wires).min(host.min(front))
     }
 
     // What pends, for the choice of an interrupt.
+    #[tactic(auto, using(base::specs::Tests::tests), unfolding(crate::specs::State::pending_of))]
     pub fn pending(self) -> Pending
         ensures { result ≡ pending_of self }
     {
@@ -215,6 +219,7 @@ impl Chip {
         }
     }
 
+    #[tactic(auto, using(base::specs::Tests::tests), unfolding(crate::specs::State::timers_whole))]
     fn timers_whole(self, now: u64) -> bool
         ensures { result ≡ timers_whole self now }
     {
@@ -222,12 +227,14 @@ impl Chip {
         self.t4.whole(now) & self.t5.whole() & tmrs_whole(t, now) & self.tick.whole(now)
     }
 
+    #[tactic(auto, using(base::specs::Tests::tests), unfolding(crate::specs::State::wires_whole))]
     fn wires_whole(self) -> bool
         ensures { result ≡ wires_whole self }
     {
         self.audio.whole() & self.spi.whole() & self.uart.whole() & self.host.whole()
     }
 
+    #[tactic(auto, using(base::specs::Tests::tests), unfolding(crate::specs::State::front_whole))]
     fn front_whole(self, now: u64) -> bool
         ensures { result ≡ front_whole self now }
     {
@@ -236,6 +243,7 @@ impl Chip {
     }
 
     // What a whole record asks of the chip; `next_due` may be early, not late.
+    #[tactic(auto, using(base::specs::Tests::tests), unfolding(crate::specs::State::chip_whole))]
     pub fn whole(self) -> bool
         ensures { result ≡ chip_whole self }
     {
@@ -249,6 +257,7 @@ impl Chip {
 }
 
 impl Chip {
+    #[tactic(auto, using(base::specs::Tests::tests), unfolding(crate::specs::State::chip_new))]
     pub fn new(hz: u32) -> Self
         ensures { result ≡ chip_new hz }
     {
@@ -276,6 +285,7 @@ impl Chip {
 
 impl Panel {
     // The battery, channel 3, is full (591 or more are three bars); the MASTER pot, channel 4, is at 900.
+    #[tactic(auto, using(base::specs::Tests::tests), unfolding(crate::specs::State::panel_new))]
     pub fn new() -> Self
         ensures { result ≡ panel_new }
     {
@@ -290,11 +300,11 @@ impl Panel {
     }
 
     // What a whole record asks of the panel, told the clock, the rate and how long an LED can have been lit.
+    #[tactic(auto, using(base::specs::Tests::tests), unfolding(crate::specs::State::panel_whole))]
     fn whole(self, now: u64, hz: u32, most: u64) -> bool
         ensures { result ≡ panel_whole self now hz most }
     {
-        let r = self.ramps;
-        r.whole(now, hz) & times_whole(&self.acc, most)
+        self.ramps.whole(now, hz) & times_whole(&self.acc, most)
     }
 }
 

@@ -15,10 +15,9 @@ use Rattle.encoders.proofs.Kept.{encs-turned, enc-turned-kept}
 use Rattle.encoders.specs.Encoder.{enc_of, enc_turned, encs_turned, turned_if}
 use Rattle.encoders.specs.Facts.{EncOk}
 use Rattle.keys.specs.Facts.{KeysOk, Sized}
-use Rattle.keys.specs.Keys.{press_of, release_of, pressure_of, turned_ramps, is_down}
+use Rattle.keys.specs.Keys.{Pressed, press_of, release_of, pressure_of, turned_ramps, is_down}
 use Rattle.encoders.specs.declared.Enc.{Enc}
 use Rattle.keys.specs.declared.Keys.{Keys}
-use Rattle.keys.specs.declared.Pressed.{Pressed}
 use Rattle.keys.specs.declared.Ramps.{Ramps}
 use Rattle.pressure.specs.Force.{ramp_most}
 use Rattle.records.specs.declared.Action.{Action}

@@ -24,7 +24,7 @@ use Rattle.uart.proofs.Arrivals.{not-early}
 use Rattle.uart.proofs.Kept.{receive-kept, timeout-kept}
 use Rattle.uart.proofs.Outcomes.{receive-quiet, timeout-quiet}
 use Rattle.uart.specs.Uart.{uart_next, receive_at}
-use Rattle.uart.specs.declared.Byte.TheVariants.{Got}
+use Rattle.std.specs.Prelude.{Some}
 use Rattle.step.specs.Stages.{now_of, hz_of, first_stages, last_stages, audio_part, byte, served_of, nothing_due}
 use Rattle.step.specs.declared.stages.Served.{Served}
 
@@ -114,7 +114,7 @@ unfolding served_of first_stages last_stages
 served-unseen c queue due skipped = refl
 
 -- "A byte leaves no earlier than its due time"
-pub byte-due : (c : Chip) (queue : List ℕ) (addr b : ℕ) → (served_of c queue).uart_rx ≡ Got addr b → c.uart.next ≤ now_of c
+pub byte-due : (c : Chip) (queue : List ℕ) (addr b : ℕ) → (served_of c queue).uart_rx ≡ Some (record { addr = addr; b = b }) → c.uart.next ≤ now_of c
 unfolding served_of
 byte-due c queue addr b = not-early c.uart queue (now_of c) (hz_of c) addr b
 

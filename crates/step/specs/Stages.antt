@@ -1,7 +1,6 @@
 -- A step's stages at the moment that the clock shows, a line a stage, in 01's order; the script's turn comes after them.
-use Rattle.std.specs.Prelude.{ℕ, false, List}
+use Rattle.std.specs.Prelude.{ℕ, false, List, None}
 use Rattle.audio.specs.Audio.{audio_at}
-use Rattle.audio.specs.declared.Half.TheVariants.{None as no_half}
 use Rattle.encoders.specs.Encoder.{encs_at}
 use Rattle.spi.specs.Spi.{spi1_at, spi2_at}
 use Rattle.state.specs.State.{usb_at, usb_due, wdt_at_of, wdt_due}
@@ -11,7 +10,6 @@ use Rattle.timers.specs.OsTick.{tick_at}
 use Rattle.timers.specs.Timer.{tmrs_at}
 use Rattle.timers.specs.Timer5.{t5_at}
 use Rattle.uart.specs.Uart.{receive_at, timeout_at}
-use Rattle.uart.specs.declared.Byte.TheVariants.{None as no_byte}
 use Rattle.step.specs.declared.stages.Served.{Served}
 
 abbrev pub now_of : Chip → ℕ
@@ -72,4 +70,4 @@ served_of c queue = record {
 
 -- a step that finds nothing due
 abbrev pub nothing_due : Chip → Served
-nothing_due c = record { chip = c; audio_half = no_half; uart_rx = no_byte; usb_frame = false; wdt = false }
+nothing_due c = record { chip = c; audio_half = None; uart_rx = None; usb_frame = false; wdt = false }

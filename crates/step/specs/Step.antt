@@ -1,12 +1,9 @@
 -- A step and a push, over a look into the script: a function from places to entries. Whoever holds the script says what its memory looks like through that function.
-use Rattle.std.specs.Prelude.{ℕ, zero, suc, ◌+◌, ◌*◌, ◌%◌, ◌^◌, ◌≤◌, ◌<◌, Bool, true, false, cond, not, ◌&&◌, List, [], ◌++◌, ◌≡◌, eqb, leb, ltb, length}
-use Rattle.audio.specs.declared.Half.TheVariants.{None as no_half}
+use Rattle.std.specs.Prelude.{ℕ, zero, suc, ◌+◌, ◌*◌, ◌%◌, ◌^◌, ◌≤◌, ◌<◌, Bool, true, false, cond, not, ◌&&◌, List, [], ◌++◌, ◌≡◌, eqb, leb, ltb, length, None}
 use Rattle.base.specs.Moments.{clock_max}
 use Rattle.base.specs.Refusals.{SIZE, STATE, FULL, COUNT, TIME, count_max}
 use Rattle.records.specs.Encoded.{written_of}
 use Rattle.records.specs.Layout.{bytes_of_timed}
-use Rattle.records.specs.declared.Wrote.{Wrote}
-use Rattle.records.specs.declared.Wrote.TheVariants.{Next, NoRoom}
 use Rattle.script.specs.Entries.{shown, agrees_of}
 use Rattle.script.specs.Script.{entries, spot_of, full_of, looked_of, taken_of, next_place, pushed_of as script_pushed}
 use Rattle.script.specs.declared.Entry.{Entry}
@@ -16,7 +13,6 @@ use Rattle.state.specs.Whole.{Sound}
 use Rattle.state.specs.With.{moved_to, due_at, due_now, with_chip, with_script}
 use Rattle.state.specs.declared.Board.{Board}
 use Rattle.uart.specs.Uart.{queue_bytes}
-use Rattle.uart.specs.declared.Byte.TheVariants.{None as no_byte}
 use Rattle.step.specs.Apply.{apply_of, apply_in}
 use Rattle.step.specs.Stages.{now_of, served_of}
 use Rattle.step.specs.declared.Going.{Going}
@@ -71,8 +67,8 @@ push_refusal b front =
 abbrev pub stopped_of : Board → ℕ → Going
 stopped_of b number = record {
   board = b;
-  audio_half = no_half;
-  uart_rx = no_byte;
+  audio_half = None;
+  uart_rx = None;
   written = 0;
   place = 0;
   applied = 0;
@@ -182,10 +178,6 @@ queue_of g e queue = cond (later g e) queue (apply_in (shorter g) e.action queue
 
 unfoldable pub out_of : Going → Entry → List ℕ → List ℕ
 out_of g e out = cond (later g e) out (written_of out g.written (record_of e))
-
-abbrev pub reached_of : Wrote → ℕ → ℕ
-reached_of (Next next) at = next
-reached_of NoRoom at = at
 
 -- ---- and ends
 

@@ -27,18 +27,17 @@ ghost use Rattle.step.specs.Step.{
   turned_of,
   queue_of,
   out_of,
-  reached_of,
   finished_of,
   push_refusal,
   placed_of,
   pushed_of,
 };
 
-pub use actions::apply;
+pub use actions::{act, apply};
 use audio::Half;
 use base::{CLOCK_MAX, COUNT, COUNT_MAX, FULL, SIZE, STATE, TIME};
 use board_guard::Done;
-use records::{Wrote, encode_timed};
+use records::encode_timed;
 pub use reset::{chip_reset, zero};
 use script::{ENTRIES, Entry, Front, Script};
 pub use stages::{Served, serve};
@@ -49,8 +48,8 @@ use uart::{Byte, QUEUE_BYTES};
 #[derive(Clone, Copy)]
 pub struct Going {
     pub board: Board,
-    pub audio_half: Half,
-    pub uart_rx: Byte,
+    pub audio_half: Option<Half>,
+    pub uart_rx: Option<Byte>,
     pub written: usize,
     pub place: usize,
     pub applied: u32,
@@ -64,8 +63,8 @@ pub struct Going {
 #[derive(Clone, Copy)]
 pub struct Stepped {
     pub board: Board,
-    pub audio_half: Half,
-    pub uart_rx: Byte,
+    pub audio_half: Option<Half>,
+    pub uart_rx: Option<Byte>,
     pub written: usize,
     pub applied: u32,
     pub refused: u32,
@@ -159,8 +158,8 @@ fn stopped(b: Board, number: u32) -> Going
 {
     Going {
         board: b,
-        audio_half: Half::None,
-        uart_rx: Byte::None,
+        audio_half: None,
+        uart_rx: None,
         written: 0,
         place: 0,
         applied: 0,
@@ -178,15 +177,12 @@ fn goes_on(mut b: Board, s: Served) -> Going
 {
     let c = s.chip;
     b.chip = c;
-    let half = s.audio_half;
-    let byte = s.uart_rx;
-    let place = c.script.front_place();
     Going {
         board: b,
-        audio_half: half,
-        uart_rx: byte,
+        audio_half: s.audio_half,
+        uart_rx: s.uart_rx,
         written: 0,
-        place: place,
+        place: c.script.front_place(),
         applied: 0,
         refused: 0,
         usb_frame: s.usb_frame,
@@ -223,15 +219,6 @@ pub fn begun(b: Board, cycles: u64, front: Front, queue: &mut [u8], out: &mut [u
     started(b, cycles, queue)
 }
 
-fn reached(w: Wrote, at: usize) -> usize
-    ensures { result ≡ reached_of w at }
-{
-    match w {
-        Wrote::Next { next } => next,
-        Wrote::NoRoom => at,
-    }
-}
-
 // The front, e: later than the clock it stays, and its time is noted; else it is taken, applied and written with its own time.
 pub fn turned(mut g: Going, e: Entry, queue: &mut [u8], out: &mut [u8]) -> Going
     requires { Ready g (length queue.old) (length out.old) }
@@ -250,7 +237,7 @@ pub fn turned(mut g: Going, e: Entry, queue: &mut [u8], out: &mut [u8]) -> Going
     let action = e.action;
     g.board = apply(g.board, action, queue);
     let wrote = encode_timed(out, g.written, e.at, action);
-    g.written = reached(wrote, g.written);
+    g.written = wrote.unwrap_or(g.written);
     g.place = rest.front_place();
     g.applied = g.applied + 1;
     g.on = 0 < rest.count;
@@ -273,13 +260,10 @@ pub fn finished(mut g: Going) -> Stepped
 {
     let next = due(g.board.chip, g.served);
     g.board.chip.clock.next_due = next;
-    let board = g.board;
-    let half = g.audio_half;
-    let byte = g.uart_rx;
     Stepped {
-        board: board,
-        audio_half: half,
-        uart_rx: byte,
+        board: g.board,
+        audio_half: g.audio_half,
+        uart_rx: g.uart_rx,
         written: g.written,
         applied: g.applied,
         refused: g.refused,
@@ -324,7 +308,7 @@ pub fn placed(mut b: Board, front: Front, at: u64) -> Spot
     b.chip.clock.next_due = 0;
     Spot {
         board: b,
-        place: place,
+        place,
         refused: 0,
         ok: true,
     }

@@ -11,13 +11,12 @@ pub fn zero(bank: &mut [u32])
     requires { length bank.old ≡ bank_words }
     ensures { bank.new ≡ zeroed bank.old }
 {
-    let mut i: usize = 0;
-    while i < bank.len() {
-        bank[i] = 0;
-        i = i + 1;
+    for word in bank.iter_mut() {
+        *word = 0;
     }
 }
 
+#[tactic(auto, unfolding(crate::specs::Reset::kept, state::specs::State::chip_new))]
 fn reset(old: Chip) -> Chip
     ensures { result ≡ kept old }
 {
@@ -31,19 +30,17 @@ fn reset(old: Chip) -> Chip
     c.audio.halves = old.audio.halves;
     c.host.usb_next = old.host.usb_next;
     c.host.usb_period = old.host.usb_period;
-    let uart = old.uart.chip_reset();
-    c.uart = uart;
-    let pins = old.pins.chip_reset();
-    c.pins = pins;
-    let keys = old.keys;
-    c.keys = keys;
+    c.uart = old.uart.chip_reset();
+    c.pins = old.pins.chip_reset();
+    c.keys = old.keys;
+    // through a variable: an array that is stored straight has no generated proof
     let enc = old.enc;
     c.enc = enc;
-    let script = old.script;
-    c.script = script;
+    c.script = old.script;
     c
 }
 
+#[tactic(auto, unfolding(crate::specs::Reset::chip_reset_of))]
 pub fn chip_reset(mut b: Board, icfg: &mut [u32], icfg1: &mut [u32]) -> Board
     requires { (length icfg.old ≡ bank_words) × (length icfg1.old ≡ bank_words) }
     ensures value { result ≡ chip_reset_of b }

@@ -14,49 +14,38 @@ use uart::Byte;
 #[derive(Clone, Copy)]
 pub struct Served {
     pub chip: Chip,
-    pub audio_half: Half,
-    pub uart_rx: Byte,
+    pub audio_half: Option<Half>,
+    pub uart_rx: Option<Byte>,
     pub usb_frame: bool,
     pub wdt: bool,
 }
 
 // TIMER5, SPI2, SPI1, timers, tick.
+#[tactic(auto, unfolding(crate::specs::Stages::first_stages))]
 fn first_stages(mut c: Chip) -> Chip
     requires { ChipOk c }
     ensures { result ≡ first_stages c }
 {
     let now = c.clock.cycles;
     let hz = c.clock.hz;
-    let t5 = c.t5.at(now, hz);
-    c.t5 = t5;
-    let spi2 = c.spi.spi2_at(now);
-    c.spi = spi2;
-    let spi1 = c.spi.spi1_at(now);
-    c.spi = spi1;
-    let timers = c.tmr;
-    let tmr = tmrs_at(timers, now, hz);
-    c.tmr = tmr;
-    let tick = c.tick.at(now, hz);
-    c.tick = tick;
+    c.t5 = c.t5.at(now, hz);
+    c.spi = c.spi.spi2_at(now).spi1_at(now);
+    c.tmr = tmrs_at(c.tmr, now, hz);
+    c.tick = c.tick.at(now, hz);
     c
 }
 
 // USB, watchdog, timeout, encoders.
+#[tactic(auto, unfolding(crate::specs::Stages::last_stages))]
 fn last_stages(mut c: Chip) -> Chip
     requires { ChipOk c }
     ensures { result ≡ last_stages c }
 {
     let now = c.clock.cycles;
     let hz = c.clock.hz;
-    let usb = c.host.usb_at(now);
-    c.host = usb;
-    let wdt = c.host.wdt_at(now);
-    c.host = wdt;
-    let timeout = c.uart.timeout_at(now);
-    c.uart = timeout;
-    let encs = c.enc;
-    let enc = encs_at(encs, now, hz);
-    c.enc = enc;
+    c.host = c.host.usb_at(now).wdt_at(now);
+    c.uart = c.uart.timeout_at(now);
+    c.enc = encs_at(c.enc, now, hz);
     c
 }
 
@@ -69,21 +58,17 @@ pub fn serve(mut c: Chip, queue: &[u8]) -> Served
     let hz = c.clock.hz;
     c = first_stages(c);
     let played = c.audio.at(now, hz);
-    let audio = played.audio;
-    let half = played.half;
-    c.audio = audio;
+    c.audio = played.audio;
     let received = c.uart.receive_at(queue, now, hz);
-    let uart = received.uart;
-    let byte = received.byte;
-    c.uart = uart;
+    c.uart = received.uart;
     let usb_frame = c.host.usb_next <= now;
     let wdt = c.host.wdt_at <= now;
     c = last_stages(c);
     Served {
         chip: c,
-        audio_half: half,
-        uart_rx: byte,
-        usb_frame: usb_frame,
-        wdt: wdt,
+        audio_half: played.half,
+        uart_rx: received.byte,
+        usb_frame,
+        wdt,
     }
 }

@@ -1,4 +1,5 @@
 -- Digits, by places of a word: what a loop over them has found.
+use Rattle.std.specs.Prelude.{Some, None, is_none, unwrap_or}
 use mathlib.Core.Path.{◌≡◌, refl}
 use mathlib.Core.Bool.{Bool, true, false, ◌&&◌, cond}
 use mathlib.Core.List.{List, [], ◌∷◌}
@@ -6,13 +7,44 @@ use Prim.Native.Nat.{ℕ, suc, ◌+◌, ◌*◌, ◌^◌, ◌≤◌, ◌<◌}
 use native.Mathlib.Numerals.{add-one}
 use native.Mathlib.Nat.{pow-suc, pow-le-pow_right}
 use native.Mathlib.Omega.{arith}
-use borrow.Author.Tests.{le-leb, lt-leb, lt-ltb, le-ltb, ltb-true}
+use borrow.Author.Tests.{le-leb, lt-leb, lt-ltb, le-ltb, ltb-true, ltb-false}
 use lib.Dec.{ltb}
 use lib.ListN.{length, get_or, drop, drop_of_length-le}
 use lib.Seq.{drop-cons}
 use Rattle.base.proofs.Flags.{both}
-use Rattle.text.specs.Numerals.{digit_of, all_digits, value_after, value_of, decimal_in, hex_in}
-use Rattle.text.specs.declared.Number.TheVariants.{Is, Not}
+use Rattle.text.specs.Numerals.{digit_of, digit_in, all_digits, value_after, value_of, decimal_in, hex_in}
+
+-- what a byte is where it is a digit, and where it is none
+pub digit-is : (base b d : ℕ) → Some d ≡ digit_in base b → (digit_of b ≡ d) × (d < base)
+digit-is base b d = go (ltb (digit_of b) base) refl
+  where
+    go : (t : Bool) → ltb (digit_of b) base ≡ t → Some d ≡ cond t (Some (digit_of b)) None → (digit_of b ≡ d) × (d < base)
+    go true q e = let same : digit_of b ≡ d = cc in (same, rw (← same) (ltb-true (digit_of b) base q))
+    go false q e = cc
+
+pub no_digit : (base b : ℕ) → None ≡ digit_in base b → base ≤ digit_of b
+no_digit base b = go (ltb (digit_of b) base) refl
+  where
+    go : (t : Bool) → ltb (digit_of b) base ≡ t → None ≡ cond t (Some (digit_of b)) None → base ≤ digit_of b
+    go true q e = cc
+    go false q e = ltb-false (digit_of b) base q
+
+pub none-digit : (base b : ℕ) → is_none (digit_in base b) ≡ true → base ≤ digit_of b
+none-digit base b = go (ltb (digit_of b) base) refl
+  where
+    go : (t : Bool) → ltb (digit_of b) base ≡ t → is_none (cond t (Some (digit_of b)) None) ≡ true → base ≤ digit_of b
+    go true q e = cc
+    go false q e = ltb-false (digit_of b) base q
+
+pub some-digit : (base b : ℕ) → is_none (digit_in base b) ≡ false → digit_of b < base
+some-digit base b = go (ltb (digit_of b) base) refl
+  where
+    go : (t : Bool) → ltb (digit_of b) base ≡ t → is_none (cond t (Some (digit_of b)) None) ≡ false → digit_of b < base
+    go true q e = ltb-true (digit_of b) base q
+    go false q e = cc
+
+pub digit-or : (base b : ℕ) → digit_of b < base → unwrap_or (digit_in base b) 0 ≡ digit_of b
+digit-or base b h = rw (lt-ltb (digit_of b) base h)
 
 module _ (base : ℕ) (s : List ℕ) (i : ℕ) where
   module _ (h : i < length s) where
@@ -62,47 +94,47 @@ overflows s i n h l =
     rw (value-more 10 s i h n) (omega (arith, value_grows (n * 10 + digit_of (get_or s i 0)) (drop (i + 1) s)))
 
 module _ (s : List ℕ) where
-  pub none-decimal : length s ≡ 0 → Not ≡ decimal_in s
+  pub none-decimal : length s ≡ 0 → None ≡ decimal_in s
   unfolding decimal_in
   none-decimal e = rw (le-ltb 0 (length s) (omega arith))
 
-  pub none-hex : (most : ℕ) → length s ≡ 0 → Not ≡ hex_in most s
+  pub none-hex : (most : ℕ) → length s ≡ 0 → None ≡ hex_in most s
   unfolding hex_in
   none-hex most e = rw (le-ltb 0 (length s) (omega arith))
 
   module _ (h : 0 < length s) where
-    pub not-decimal : all_digits 10 s ≡ false → Not ≡ decimal_in s
+    pub not-decimal : all_digits 10 s ≡ false → None ≡ decimal_in s
     unfolding decimal_in
     not-decimal e = rw (lt-ltb 0 (length s) h, e)
 
-    pub too_large : 2 ^ 64 ≤ value_of 10 s → Not ≡ decimal_in s
+    pub too_large : 2 ^ 64 ≤ value_of 10 s → None ≡ decimal_in s
     unfolding decimal_in
     too_large e = rw (lt-ltb 0 (length s) h, le-ltb (value_of 10 s) (2 ^ 64) e) (go (all_digits 10 s))
       where
-        go : (t : Bool) → Not ≡ cond (t && false) (Is (value_of 10 s)) Not
+        go : (t : Bool) → None ≡ cond (t && false) (Some (value_of 10 s)) None
         go true = refl
         go false = refl
 
-    pub is-decimal : all_digits 10 s ≡ true → value_of 10 s < 2 ^ 64 → Is (value_of 10 s) ≡ decimal_in s
+    pub is-decimal : all_digits 10 s ≡ true → value_of 10 s < 2 ^ 64 → Some (value_of 10 s) ≡ decimal_in s
     unfolding decimal_in
     is-decimal e l = rw (lt-ltb 0 (length s) h, e, lt-ltb (value_of 10 s) (2 ^ 64) l)
 
     module _ (most : ℕ) where
-      pub too_many : most < length s → Not ≡ hex_in most s
+      pub too_many : most < length s → None ≡ hex_in most s
       unfolding hex_in
       too_many e = rw (lt-ltb 0 (length s) h, lt-leb (length s) most e)
 
       module _ (m : length s ≤ most) where
-        pub too-many-for-64 : 16 < length s → Not ≡ hex_in most s
+        pub too-many-for-64 : 16 < length s → None ≡ hex_in most s
         unfolding hex_in
         too-many-for-64 e = rw (lt-ltb 0 (length s) h, le-leb (length s) most m, lt-leb (length s) 16 e)
 
         module _ (l : length s ≤ 16) where
-          pub not-hex : all_digits 16 s ≡ false → Not ≡ hex_in most s
+          pub not-hex : all_digits 16 s ≡ false → None ≡ hex_in most s
           unfolding hex_in
           not-hex e = rw (lt-ltb 0 (length s) h, le-leb (length s) most m, le-leb (length s) 16 l, e)
 
-          pub is-hex : all_digits 16 s ≡ true → Is (value_of 16 s) ≡ hex_in most s
+          pub is-hex : all_digits 16 s ≡ true → Some (value_of 16 s) ≡ hex_in most s
           unfolding hex_in
           is-hex e = rw (lt-ltb 0 (length s) h, le-leb (length s) most m, le-leb (length s) 16 l, e)
 

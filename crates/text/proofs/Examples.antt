@@ -1,4 +1,5 @@
 -- Lines and numbers, worked out.
+use Rattle.std.specs.Prelude.{Some, None}
 use mathlib.Core.Path.{◌≡◌, refl}
 use mathlib.Core.Bool.{true, false}
 use mathlib.Core.List.{[], ◌∷◌}
@@ -7,8 +8,6 @@ use Rattle.text.specs.Putting.{place_after_all, put_all, places, decimal_of, hex
 use Rattle.text.specs.Spans.{run_length, word_at, same_bytes, is_text, all_spaces, is_passed_over}
 use Rattle.text.specs.Numerals.{digit_of, all_digits, value_after, decimal_in, hex_in}
 use Rattle.text.specs.HexBytes.{pairs, unhexed_answer, unhexed_bytes}
-use Rattle.text.specs.declared.Number.TheVariants.{Is, Not}
-use Rattle.text.specs.declared.Unhexed.TheVariants.{Bytes, Not as NoBytes}
 
 -- the last byte finds no room
 pub cut_short : put_all (bytes "....") 2 (bytes "abc") ≡ bytes "..ab"
@@ -55,19 +54,19 @@ pub tab-is-no-space : is_passed_over (9 ∷ []) ≡ false
 unfolding all_spaces
 tab-is-no-space = refl
 
-pub one-too-large : decimal_in (bytes "18446744073709551616") ≡ Not
+pub one-too-large : decimal_in (bytes "18446744073709551616") ≡ None
 unfolding decimal_in all_digits value_after digit_of
 one-too-large = refl
 
-pub zeros-in-front : decimal_in (bytes "000000000000000000000042") ≡ Is 42
+pub zeros-in-front : decimal_in (bytes "000000000000000000000042") ≡ Some 42
 unfolding decimal_in all_digits value_after digit_of
 zeros-in-front = refl
 
-pub no_sign : decimal_in (bytes "+1") ≡ Not
+pub no_sign : decimal_in (bytes "+1") ≡ None
 unfolding decimal_in all_digits value_after digit_of
 no_sign = refl
 
-pub either-case : hex_in 8 (bytes "dEAd") ≡ Is 0xdead
+pub either-case : hex_in 8 (bytes "dEAd") ≡ Some 0xdead
 unfolding hex_in all_digits value_after digit_of
 either-case = refl
 
@@ -75,10 +74,10 @@ pub unhexed : unhexed_bytes (bytes "4b6C") (bytes "....") ≡ bytes "Kl.."
 unfolding unhexed_bytes pairs all_digits digit_of
 unhexed = refl
 
-pub dash-is-none : unhexed_answer (bytes "-") [] ≡ Bytes 0
+pub dash-is-none : unhexed_answer (bytes "-") [] ≡ Some 0
 unfolding unhexed_answer pairs
 dash-is-none = refl
 
-pub odd-digits : unhexed_answer (bytes "4b6") (bytes "....") ≡ NoBytes
+pub odd-digits : unhexed_answer (bytes "4b6") (bytes "....") ≡ None
 unfolding unhexed_answer pairs
 odd-digits = refl

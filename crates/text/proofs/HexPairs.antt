@@ -1,4 +1,5 @@
 -- Pairs of hex digits: by places of a word, and what the word stands for.
+use Rattle.std.specs.Prelude.{Some, None}
 use mathlib.Core.Path.{◌≡◌, refl}
 use mathlib.Core.Bool.{true, false, ◌&&◌}
 use mathlib.Core.List.{List, [], ◌∷◌, ◌++◌}
@@ -12,7 +13,6 @@ use lib.Seq.{drop-cons, sets}
 use Rattle.base.proofs.Flags.{and_left, and_right}
 use Rattle.text.specs.Numerals.{digit_of, all_digits}
 use Rattle.text.specs.HexBytes.{is_dash, is_pairs, pairs, unhexed_answer, unhexed_bytes}
-use Rattle.text.specs.declared.Unhexed.TheVariants.{Bytes, Not}
 use Rattle.text.proofs.Digits.{digit-next}
 
 pub pairs-length : (s : List ℕ) → length (pairs s) ≡ length s / 2
@@ -61,7 +61,7 @@ pairs-digits s e =
 
 -- what a word stands for
 module _ (s out : List ℕ) where
-  pub dash : is_dash s ≡ true → (Bytes 0 ≡ unhexed_answer s out) × (out ≡ unhexed_bytes s out)
+  pub dash : is_dash s ≡ true → (Some 0 ≡ unhexed_answer s out) × (out ≡ unhexed_bytes s out)
   unfolding unhexed_answer unhexed_bytes
   dash e =
       let one : length s ≡ 1 = eqb-true (length s) 1 (and_left (eqb (length s) 1) (eqb (get_or s 0 0) 45) e) in
@@ -70,12 +70,12 @@ module _ (s out : List ℕ) where
       (rw (e, none, room), rw (e, none, room))
 
   module _ (d : is_dash s ≡ false) where
-    pub no_bytes : is_pairs s ≡ false → (Not ≡ unhexed_answer s out) × (out ≡ unhexed_bytes s out)
+    pub no_bytes : is_pairs s ≡ false → (None ≡ unhexed_answer s out) × (out ≡ unhexed_bytes s out)
     unfolding unhexed_answer unhexed_bytes
     no_bytes e = (rw (d, e), rw (d, e))
 
     module _ (e : is_pairs s ≡ true) where
-      pub no_room_lem : length out < length s / 2 → (Not ≡ unhexed_answer s out) × (out ≡ unhexed_bytes s out)
+      pub no_room_lem : length out < length s / 2 → (None ≡ unhexed_answer s out) × (out ≡ unhexed_bytes s out)
       unfolding unhexed_answer unhexed_bytes
       no_room_lem h =
           let over = lt-leb (length (pairs s)) (length out) (rw (pairs-length s) h) in
@@ -83,12 +83,12 @@ module _ (s out : List ℕ) where
 
       pub room :
           length s / 2 ≤ length out →
-          (Bytes (length s / 2) ≡ unhexed_answer s out) × (pairs s ++ drop (length (pairs s)) out ≡ unhexed_bytes s out)
+          (Some (length s / 2) ≡ unhexed_answer s out) × (pairs s ++ drop (length (pairs s)) out ≡ unhexed_bytes s out)
       unfolding unhexed_answer unhexed_bytes
       room h =
           let fits = le-leb (length (pairs s)) (length out) (rw (pairs-length s) h) in
           (rw (d, e, fits, pairs-length s), rw (d, e, fits))
 
-pub nothing-unhexed : (out : List ℕ) → (Not ≡ unhexed_answer [] out) × (out ≡ unhexed_bytes [] out)
+pub nothing-unhexed : (out : List ℕ) → (None ≡ unhexed_answer [] out) × (out ≡ unhexed_bytes [] out)
 unfolding unhexed_answer unhexed_bytes
 nothing-unhexed out = (refl, refl)

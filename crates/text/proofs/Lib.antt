@@ -9,3 +9,4 @@ pub mod Parts
 pub mod HexPairs
 pub mod RoundTrip
 pub mod Examples
+pub mod Rows

@@ -1,4 +1,5 @@
 -- What is written is read back: a number's digits, in decimal and in hexadecimal, and their bytes in a buffer.
+use Rattle.std.specs.Prelude.{Some}
 use mathlib.Core.Path.{◌≡◌, refl, ◌∙◌, sym}
 use mathlib.Core.Bool.{Bool, true, false, ◌&&◌}
 use mathlib.Core.Logic.{◌⊎◌, inl, inr}
@@ -16,7 +17,6 @@ use Rattle.text.specs.Putting.{place_after_all, put_all, places, decimal_of, hex
 use Rattle.text.specs.Spans.{bytes_in}
 use Rattle.text.specs.Numerals.{digit_of, all_digits, value_after, value_of, decimal_in, hex_in}
 use Rattle.text.specs.declared.Span.{Span}
-use Rattle.text.specs.declared.Number.TheVariants.{Is}
 use Rattle.text.proofs.Digits.{is-decimal, is-hex}
 use Rattle.text.proofs.Parts.{inside}
 use Rattle.text.proofs.Places.{places-hold}
@@ -81,7 +81,7 @@ module _ (base : ℕ) (positive : 0 < base) (small : base ≤ 16) where
       ∙ rw (digits_value k (n / base) less, last-digit) (div-add-mod' n base)
 
 module _ (n : ℕ) (fits : n < 2 ^ 64) where
-  pub decimal-round-trip : decimal_in (decimal_of n) ≡ Is n
+  pub decimal-round-trip : decimal_in (decimal_of n) ≡ Some n
   unfolding decimal_of
   decimal-round-trip =
       let k : ℕ = places 10 1 19 n in
@@ -91,7 +91,7 @@ module _ (n : ℕ) (fits : n < 2 ^ 64) where
       let are = digits_are 10 (omega arith) (omega arith) k n in
       sym (rw value at (is-decimal (last_digits 10 k n) (omega arith) are (rw value fits)))
 
-  pub hex-round-trip : (width most : ℕ) → length (hex_of n width) ≤ most → hex_in most (hex_of n width) ≡ Is n
+  pub hex-round-trip : (width most : ℕ) → length (hex_of n width) ≤ most → hex_in most (hex_of n width) ≡ Some n
   unfolding hex_of
   hex-round-trip width most m =
       let w : ℕ = hex_width width in

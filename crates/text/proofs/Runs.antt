@@ -1,8 +1,9 @@
 -- Runs of marks and of other bytes.
-use mathlib.Core.Path.{◌≡◌, refl}
+use mathlib.Core.Path.{◌≡◌, refl, ◌∙◌}
 use mathlib.Core.Bool.{Bool, true, false, beq, cond, ◌&&◌}
 use mathlib.Core.List.{List, [], ◌∷◌}
-use Prim.Native.Nat.{ℕ, suc, ◌+◌, ◌≤◌, ◌<◌}
+use mathlib.Core.Logic.{◌⊎◌, inl, inr}
+use Prim.Native.Nat.{ℕ, suc, max, ◌+◌, ◌≤◌, ◌<◌}
 use Prim.Native.Char.{code}
 use native.Mathlib.Numerals.{add-one}
 use native.Mathlib.Omega.{arith}
@@ -10,7 +11,12 @@ use borrow.Author.Tests.{lt-leb}
 use lib.Dec.{leb, leb-suc-suc}
 use lib.ListN.{length, get_or, drop_of_length-le}
 use lib.Seq.{drop-cons}
+use Rattle.base.proofs.Cases.{lt-or-ge}
 use Rattle.text.specs.Spans.{is_space, is_of_run, run_length, run_end, all_spaces, is_passed_over}
+
+done_at : (mark : ℕ) (marks : Bool) (line : List ℕ) (at : ℕ) → length line ≤ at → at ≡ run_end mark marks line at
+unfolding run_length
+done_at mark marks line at h = rw (drop_of_length-le line h) (omega arith)
 
 module _ (mark : ℕ) (marks : Bool) (line : List ℕ) (i : ℕ) where
   -- a turn
@@ -26,6 +32,15 @@ module _ (mark : ℕ) (marks : Bool) (line : List ℕ) (i : ℕ) where
   pub run-done : length line ≤ i → i ≡ run_end mark marks line i
   unfolding run_length
   run-done h = rw (drop_of_length-le line h) (omega arith)
+
+  -- the end from a place on, in the line or past it
+  pub run-max : (at : ℕ) → at ≤ i → length line ≤ i → (at ≤ length line → i ≤ length line) → run_end mark marks line i ≡ run_end mark marks line at
+      → max at (length line) ≡ run_end mark marks line at
+  run-max at a l m e = go (lt-or-ge (length line) at)
+    where
+      go : (length line < at) ⊎ (at ≤ length line) → max at (length line) ≡ run_end mark marks line at
+      go (inl p) = let past : length line ≤ at = omega arith in let same : max at (length line) ≡ at = omega arith in same ∙ done_at mark marks line at past
+      go (inr p) = let same : max at (length line) ≡ i = omega (arith, m p) in same ∙ (run-done l ∙ e)
 
 -- a line that is passed over because there is nothing in it
 pub nothing : (line : List ℕ) → length line ≡ 0 → true ≡ is_passed_over line

@@ -1,9 +1,7 @@
 -- Bytes written as pairs of hex digits.
-use Rattle.std.specs.Prelude.{ℕ, ◌+◌, ◌*◌, ◌%◌, Bool, ◌&&◌, ◌||◌, cond, List, [], ◌∷◌, ◌++◌, eqb, ltb, leb, length, get_or, drop}
+use Rattle.std.specs.Prelude.{ℕ, ◌+◌, ◌*◌, ◌%◌, Bool, ◌&&◌, ◌||◌, cond, List, [], ◌∷◌, ◌++◌, eqb, ltb, leb, length, get_or, drop, Option, Some, None}
 use Prim.Native.Char.{code}
 use Rattle.text.specs.Numerals.{digit_of, all_digits}
-use Rattle.text.specs.declared.Unhexed.{Unhexed}
-use Rattle.text.specs.declared.Unhexed.TheVariants.{Bytes, Not}
 
 -- "the word `-` alone stands for no bytes"
 abbrev pub is_dash : List ℕ → Bool
@@ -23,9 +21,9 @@ pairs (high ∷ low ∷ s) = (digit_of high * 16 + digit_of low) ∷ pairs s
 abbrev pub is_unhexed : List ℕ → List ℕ → Bool
 is_unhexed s out = (is_dash s || is_pairs s) && leb (length (pairs s)) (length out)
 
-unfoldable pub unhexed_answer : List ℕ → List ℕ → Unhexed
-unhexed_answer s out = cond (is_unhexed s out) (Bytes (length (pairs s))) Not
+unfoldable pub unhexed_answer : List ℕ → List ℕ → Option ℕ
+unhexed_answer s out = cond (is_unhexed s out) (Some (length (pairs s))) None
 
--- the bytes at the front of `out`, which stays as it was where the answer is Not
+-- the bytes at the front of `out`, which stays as it was where the answer is None
 unfoldable pub unhexed_bytes : List ℕ → List ℕ → List ℕ
 unhexed_bytes s out = cond (is_unhexed s out) (pairs s ++ drop (length (pairs s)) out) out

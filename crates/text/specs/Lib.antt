@@ -3,3 +3,4 @@ pub mod Putting
 pub mod Spans
 pub mod Numerals
 pub mod HexBytes
+pub mod Tables

@@ -4,11 +4,15 @@
 // reader takes `word(line, 0)`, then goes on at that word's `to`, until a word is empty.
 #![tactic(auto)]
 
+mod tables;
+
 ghost use Rattle.std.specs.Prelude.{◌≡◌, true, ◌++◌, ◌≤◌, length, drop};
 ghost use Rattle.text.specs.Putting.{place_after, put_byte, place_after_all, put_all, decimal_of, hex_of, first_of};
 ghost use Rattle.text.specs.Spans.{run_end, line_end, word_at, bytes_in, is_text, is_passed_over};
-ghost use Rattle.text.specs.Numerals.{digit_of, all_digits, decimal_in, hex_in};
+ghost use Rattle.text.specs.Numerals.{digit_in, all_digits, decimal_in, hex_in};
 ghost use Rattle.text.specs.HexBytes.{is_dash, is_pairs, pairs, unhexed_answer, unhexed_bytes};
+
+pub use tables::find;
 
 // The descriptors that a program reads and writes.
 pub const STDIN: i32 = 0;
@@ -16,23 +20,10 @@ pub const STDIN: i32 = 0;
 pub const STDOUT: i32 = 1;
 
 // A word's place in its line.
-#[derive(Clone, Copy)]
+#[derive(Clone, Copy, Debug, PartialEq, Eq)]
 pub struct Span {
     pub from: usize,
     pub to: usize,
-}
-
-#[derive(Clone, Copy)]
-pub enum Number {
-    Is(u64),
-    Not,
-}
-
-// The bytes at the front, so many, or none because the word stands for no bytes or has no room.
-#[derive(Clone, Copy)]
-pub enum Unhexed {
-    Bytes(usize),
-    Not,
 }
 
 // ---- writing
@@ -54,10 +45,8 @@ pub fn put_text(out: &mut [u8], at: usize, text: &[u8]) -> usize
     ensures bytes { out.new ≡ put_all out.old at text.now }
 {
     let mut to = at;
-    let mut i: usize = 0;
-    while i < text.len() {
-        to = put(out, to, text[i]);
-        i = i + 1;
+    for b in text {
+        to = put(out, to, *b);
     }
     to
 }
@@ -88,24 +77,19 @@ pub fn put_hex(out: &mut [u8], at: usize, n: u64, width: usize) -> usize
 pub fn first(s: &[u8], n: usize) -> &[u8]
     ensures { result.now ≡ first_of s.now n }
 {
-    if n <= s.len() {
-        return &s[..n];
-    }
-    &s[..0]
+    s.get(..n).unwrap_or(&[])
 }
 
 // The first place from `at` on where a run of marks, or of other bytes, ends.
 fn run_end(line: &[u8], at: usize, mark: u8, marks: bool) -> usize
     ensures { result ≡ run_end mark marks line.now at }
 {
-    let mut i = at;
-    while i < line.len() {
+    for i in at..line.len() {
         if (line[i] == mark) != marks {
             return i;
         }
-        i = i + 1;
     }
-    i
+    at.max(line.len())
 }
 
 // The place of the next line feed from `at` on, or the end: where a line that begins at `at` ends.
@@ -120,17 +104,15 @@ pub fn word(line: &[u8], at: usize) -> Span
     ensures { result ≡ word_at line.now at }
 {
     let from = run_end(line, at, b' ', true);
-    Span {
-        from: from,
-        to: run_end(line, from, b' ', false),
-    }
+    let to = run_end(line, from, b' ', false);
+    Span { from, to }
 }
 
 // Empty, all spaces, or a remark.
 pub fn is_passed_over(line: &[u8]) -> bool
     ensures { result ≡ is_passed_over line.now }
 {
-    if line.len() == 0 {
+    if line.is_empty() {
         return true;
     }
     if line[0] == b'#' {
@@ -143,204 +125,112 @@ pub fn is_passed_over(line: &[u8]) -> bool
 pub fn is(line: &[u8], w: Span, text: &[u8]) -> bool
     ensures { result ≡ is_text line.now w text.now }
 {
-    let from = w.from;
-    let to = w.to;
-    if to < from {
-        return false;
+    match line.get(w.from..w.to) {
+        Some(bytes) => check::same(bytes, text),
+        None => false,
     }
-    if line.len() < to {
-        return false;
-    }
-    check::same(&line[from..to], text)
 }
 
 // The word's bytes; none where it is not inside the line.
+#[tactic(auto, unfolding(crate::specs::Spans::bytes_in))]
 pub fn bytes_of(line: &[u8], w: Span) -> &[u8]
     ensures { result.now ≡ bytes_in line.now w }
 {
-    let from = w.from;
-    let to = w.to;
-    if to < from {
-        return &line[..0];
-    }
-    if line.len() < to {
-        return &line[..0];
-    }
-    &line[from..to]
-}
-
-// One or more decimal digits that fit 64 bits.
-pub fn decimal_in(line: &[u8], w: Span) -> Number
-    ensures { result ≡ decimal_in (bytes_in line.now w) }
-{
-    let from = w.from;
-    let to = w.to;
-    if to < from {
-        return Number::Not;
-    }
-    if line.len() < to {
-        return Number::Not;
-    }
-    decimal(&line[from..to])
-}
-
-// One to `most` hex digits, and no more than 16, which fit 64 bits.
-pub fn hex_in(line: &[u8], w: Span, most: usize) -> Number
-    ensures { result ≡ hex_in most (bytes_in line.now w) }
-{
-    let from = w.from;
-    let to = w.to;
-    if to < from {
-        return Number::Not;
-    }
-    if line.len() < to {
-        return Number::Not;
-    }
-    hex(&line[from..to], most)
-}
-
-// Pairs of hex digits as bytes at the front of `out`, `-` for none. Where the word is no such thing, or they do not fit,
-// `out` stays as it was.
-pub fn unhex(line: &[u8], w: Span, out: &mut [u8]) -> Unhexed
-    ensures answer { result ≡ unhexed_answer (bytes_in line.now w) out.old }
-    ensures bytes { out.new ≡ unhexed_bytes (bytes_in line.now w) out.old }
-{
-    let from = w.from;
-    let to = w.to;
-    if to < from {
-        return Unhexed::Not;
-    }
-    if line.len() < to {
-        return Unhexed::Not;
-    }
-    unhex_word(&line[from..to], out)
+    line.get(w.from..w.to).unwrap_or(&[])
 }
 
 // ---- the bytes of a word
 
-// A hex digit's value, 16 for any other byte.
-fn digit(b: u8) -> u8
-    ensures { result ≡ digit_of b }
+// The value of a digit of the base.
+#[tactic(auto, unfolding(crate::specs::Numerals::digit_of))]
+fn digit(b: u8, base: u8) -> Option<u8>
+    requires { base ≤ 16 }
+    ensures { result ≡ digit_in base b }
 {
-    if b < b'0' {
-        return 16;
-    }
-    if b <= b'9' {
-        return b - b'0';
-    }
-    if b < b'A' {
-        return 16;
-    }
-    if b <= b'F' {
-        return b - b'A' + 10;
-    }
-    if b < b'a' {
-        return 16;
-    }
-    if b <= b'f' {
-        return b - b'a' + 10;
-    }
-    16
+    let d = match b {
+        b'0'..=b'9' => b - b'0',
+        b'A'..=b'F' => b - b'A' + 10,
+        b'a'..=b'f' => b - b'a' + 10,
+        _ => return None,
+    };
+    (d < base).then_some(d)
 }
 
-fn decimal(s: &[u8]) -> Number
+// One or more decimal digits that fit 64 bits.
+pub fn decimal(s: &[u8]) -> Option<u64>
     ensures { result ≡ decimal_in s.now }
 {
-    if s.len() == 0 {
-        return Number::Not;
+    if s.is_empty() {
+        return None;
     }
     let mut n: u64 = 0;
-    let mut i: usize = 0;
-    while i < s.len() {
-        let d = digit(s[i]);
-        if 9 < d {
-            return Number::Not;
-        }
-        if u64::MAX / 10 < n {
-            return Number::Not;
-        }
-        if u64::MAX - n * 10 < (d as u64) {
-            return Number::Not;
-        }
-        n = n * 10 + (d as u64);
-        i = i + 1;
+    for b in s {
+        let d = digit(*b, 10)?;
+        n = n.checked_mul(10)?.checked_add(u64::from(d))?;
     }
-    Number::Is(n)
+    Some(n)
 }
 
-fn hex(s: &[u8], most: usize) -> Number
+// One to `most` hex digits, and no more than 16, which fit 64 bits.
+pub fn hex(s: &[u8], most: usize) -> Option<u64>
     ensures { result ≡ hex_in most s.now }
 {
-    if s.len() == 0 {
-        return Number::Not;
+    if s.is_empty() {
+        return None;
     }
     if most < s.len() {
-        return Number::Not;
+        return None;
     }
     if 16 < s.len() {
-        return Number::Not;
+        return None;
     }
     let mut n: u64 = 0;
-    let mut i: usize = 0;
-    while i < s.len() {
-        let d = digit(s[i]);
-        if 15 < d {
-            return Number::Not;
-        }
-        n = n * 16 + (d as u64);
-        i = i + 1;
+    for b in s {
+        let d = digit(*b, 16)?;
+        n = n * 16 + u64::from(d);
     }
-    Number::Is(n)
+    Some(n)
 }
 
-fn unhex_word(s: &[u8], out: &mut [u8]) -> Unhexed
+// Pairs of hex digits as bytes at the front of `out`, so many, `-` for none. Where the word is no such thing, or they do not fit,
+// `out` stays as it was.
+pub fn unhex(s: &[u8], out: &mut [u8]) -> Option<usize>
     ensures answer { result ≡ unhexed_answer s.now out.old }
     ensures bytes { out.new ≡ unhexed_bytes s.now out.old }
 {
     if is_dash(s) {
-        return Unhexed::Bytes(0);
+        return Some(0);
     }
     if !is_pairs(s) {
-        return Unhexed::Not;
+        return None;
     }
     let n = s.len() / 2;
     if out.len() < n {
-        return Unhexed::Not;
+        return None;
     }
     write_pairs(s, out);
-    Unhexed::Bytes(n)
+    Some(n)
 }
 
 fn is_dash(s: &[u8]) -> bool
     ensures { result ≡ is_dash s.now }
 {
-    if s.len() != 1 {
-        return false;
-    }
-    s[0] == b'-'
+    matches!(s, [b'-'])
 }
 
 fn is_pairs(s: &[u8]) -> bool
     ensures { result ≡ is_pairs s.now }
 {
-    if s.len() == 0 {
-        return false;
-    }
-    if s.len() % 2 != 0 {
-        return false;
-    }
-    all_hex(s)
+    !s.is_empty() && s.len() % 2 == 0 && all_hex(s)
 }
 
 fn all_hex(s: &[u8]) -> bool
     ensures { result ≡ all_digits 16 s.now }
 {
-    let mut i: usize = 0;
-    while i < s.len() {
-        if 15 < digit(s[i]) {
+    for b in s {
+        if digit(*b, 16).is_none() {
             return false;
         }
-        i = i + 1;
     }
     true
 }
@@ -351,12 +241,9 @@ fn write_pairs(s: &[u8], out: &mut [u8])
     requires s_in_bounds { length (pairs s.now) ≤ length out.old }
     ensures { out.new ≡ pairs s.now ++ drop (length (pairs s.now)) out.old }
 {
-    let n = s.len() / 2;
-    let mut i: usize = 0;
-    while i < n {
-        let high = digit(s[2 * i]);
-        let low = digit(s[2 * i + 1]);
+    for i in 0..s.len() / 2 {
+        let high = digit(s[2 * i], 16).unwrap_or(0);
+        let low = digit(s[2 * i + 1], 16).unwrap_or(0);
         out[i] = high * 16 + low;
-        i = i + 1;
     }
 }

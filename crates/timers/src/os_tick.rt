@@ -4,11 +4,11 @@ ghost use Rattle.std.specs.Prelude.{◌≡◌, ◌^◌, ◌<◌, ◌≤◌};
 ghost use Rattle.base.specs.Moments.{clock_max};
 ghost use Rattle.timers.specs.OsTick.{tick_new, tick_period, tick_at, tick_ctl, tick_cnt, tick_ctl_written, tick_cnt_written, tick_prd_written, tick_whole};
 
-use base::{NEVER, least, most, rearmed, started, switched, unless_wide};
+use base::{NEVER, rearmed, started, switched};
 use times::Cycles;
 
 #[repr(C)]
-#[derive(Clone, Copy)]
+#[derive(Clone, Copy, Debug, PartialEq, Eq)]
 pub struct Tick {
     pub start: u64,
     pub next: u64,
@@ -54,6 +54,7 @@ impl Tick {
     }
 
     // How far into the period it is, in the period register's units.
+    #[tactic(auto, using(base::specs::Tests::tests), unfolding(crate::specs::OsTick::tick_cnt))]
     pub fn read_cnt(self, now: u64, hz: u32) -> u32
         requires { self.start ≤ now }
         ensures { result ≡ tick_cnt self now hz }
@@ -62,9 +63,10 @@ impl Tick {
             return 0;
         }
         let period = tick_period(hz).0;
-        times::mul_div(least(now - self.start, period), self.prd as u64, period)
+        times::mul_div((now - self.start).min(period), u64::from(self.prd), period)
     }
 
+    #[tactic(auto, using(base::specs::Tests::tests), unfolding(crate::specs::OsTick::tick_ctl_written))]
     pub fn write_ctl(mut self, v: u32, now: u64, hz: u32) -> Self
         requires { now ≤ clock_max }
         ensures { result ≡ tick_ctl_written self v now hz }
@@ -73,7 +75,9 @@ impl Tick {
         let on = v & 1 != 0;
         self.start = started(was, on, self.start, now);
         self.next = switched(was, on, self.next, now + tick_period(hz).0);
-        self.pending = unless_wide(v & 0x40 != 0, self.pending);
+        if v & 0x40 != 0 {
+            self.pending = 0;
+        }
         self.ctl = v & 0x3f;
         self
     }
@@ -110,5 +114,5 @@ fn tick_period(hz: u32) -> Cycles
     ensures result_value { result.0 ≡ tick_period hz }
     ensures bounded { (0 < result.0) × (result.0 ≤ 2 ^ 26) }
 {
-    Cycles(most((hz as u64) / 100, 1))
+    Cycles((u64::from(hz) / 100).max(1))
 }

@@ -19,11 +19,11 @@ ghost use Rattle.timers.specs.Timer.{
   tmrs_whole,
 };
 
-use base::{NEVER, least, most, product, rearmed, unless};
+use base::{NEVER, product, rearmed};
 use times::{Cycles, Mhz24};
 
 #[repr(C)]
-#[derive(Clone, Copy)]
+#[derive(Clone, Copy, Debug, PartialEq, Eq)]
 pub struct Tmr {
     pub start: u64,
     pub next: u64,
@@ -48,12 +48,13 @@ impl Tmr {
     }
 
     // Cycles per count: the crystal through the prescaler, at least one.
+    #[tactic(auto, using(base::specs::Tests::tests), unfolding(crate::specs::Timer::tmr_per_count))]
     fn per_count(self, hz: u32) -> Cycles
         ensures result_value { result.0 ≡ tmr_per_count self hz }
         ensures bounded { (0 < result.0) × (result.0 ≤ 2 ^ 23) }
     {
         let divider = times::divider(self.con / 16);
-        Cycles(most(times::cycles_of_mhz24(Mhz24(divider), hz).0, 1))
+        Cycles(times::cycles_of_mhz24(Mhz24(divider), hz).0.max(1))
     }
 
     // The time of so many counts.
@@ -65,11 +66,12 @@ impl Tmr {
     }
 
     // A period: PRD counts, of which none count as one.
+    #[tactic(auto, using(base::specs::Tests::tests), unfolding(crate::specs::Timer::tmr_period))]
     fn period(self, hz: u32) -> Cycles
         ensures result_value { result.0 ≡ tmr_period self hz }
         ensures bounded { result.0 ≤ 2 ^ 55 }
     {
-        self.cycles_of(most(self.prd as u64, 1) as u32, hz)
+        self.cycles_of(self.prd.max(1), hz)
     }
 
     // What the moment makes of it.
@@ -98,6 +100,7 @@ impl Tmr {
     }
 
     // Where it stands now; it counts while it has a deadline. The count wraps.
+    #[tactic(auto, using(base::specs::Tests::tests), unfolding(crate::specs::Timer::tmr_cnt))]
     pub fn read_cnt(self, now: u64, hz: u32) -> u32
         requires { self.start ≤ now }
         ensures { result ≡ tmr_cnt self now hz }
@@ -106,7 +109,7 @@ impl Tmr {
             return self.cnt0;
         }
         let counts = (now - self.start) / self.per_count(hz).0;
-        std::num::wrapping_add_u32(self.cnt0, (counts % 0x1_0000_0000) as u32)
+        self.cnt0.wrapping_add((counts % 0x1_0000_0000) as u32)
     }
 
     // After each register write it starts anew from CNT, if it is on and has a period.
@@ -131,17 +134,17 @@ impl Tmr {
     fn left(self) -> u32
         ensures { result ≡ max (self.prd - self.cnt0) 1 }
     {
-        if self.cnt0 < self.prd {
-            return self.prd - self.cnt0;
-        }
-        1
+        self.prd.saturating_sub(self.cnt0).max(1)
     }
 
+    #[tactic(auto, using(base::specs::Tests::tests), unfolding(crate::specs::Timer::tmr_con_written))]
     pub fn write_con(mut self, v: u32, now: u64, hz: u32) -> Self
         requires { now ≤ clock_max }
         ensures { result ≡ tmr_con_written self v now hz }
     {
-        self.pending = unless(v & 0x4000 != 0, self.pending);
+        if v & 0x4000 != 0 {
+            self.pending = 0;
+        }
         self.con = v & !0xc000;
         self.armed(now, hz)
     }
@@ -171,28 +174,24 @@ impl Tmr {
 }
 
 // ---- the four ---------------------------------------------------------------
-// Unrolled: an index at run time into a record by value is dear. What holds of one timer is proved once, and of the four over the index.
+// What holds of one timer is proved once, and of the four over the index.
 
 pub fn tmrs_at(t: [Tmr; 4], now: u64, hz: u32) -> [Tmr; 4]
     requires { now ≤ clock_max }
     ensures { result ≡ tmrs_at t now hz }
 {
-    let a = t[0].at(now, hz);
-    let b = t[1].at(now, hz);
-    let c = t[2].at(now, hz);
-    let d = t[3].at(now, hz);
-    [a, b, c, d]
+    t.map(|x| x.at(now, hz))
 }
 
 // The earliest deadline.
 pub fn tmrs_next(t: [Tmr; 4]) -> u64
     ensures { result ≡ tmrs_next t }
 {
-    least(t[0].next, least(t[1].next, least(t[2].next, t[3].next)))
+    t.iter().fold(t[0].next, |first, x| first.min(x.next))
 }
 
 pub fn tmrs_whole(t: [Tmr; 4], now: u64) -> bool
     ensures { result ≡ tmrs_whole t now }
 {
-    t[0].whole(now) & t[1].whole(now) & t[2].whole(now) & t[3].whole(now)
+    t.iter().fold(true, |ok, x| ok & x.whole(now))
 }

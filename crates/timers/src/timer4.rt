@@ -3,11 +3,11 @@ ghost use Rattle.std.specs.Prelude.{◌≡◌, ◌≤◌};
 ghost use Rattle.base.specs.Moments.{clock_max};
 ghost use Rattle.timers.specs.Timer4.{t4_new, t4_cnt, t4_con_written, t4_cnt_written, t4_whole, streak_of, poll_end, poll_of, poll_skipped, poll_due};
 
-use base::{least, most, started};
+use base::started;
 use times::{Cycles, Mhz24};
 
 #[repr(C)]
-#[derive(Clone, Copy)]
+#[derive(Clone, Copy, Debug, PartialEq, Eq)]
 pub struct T4 {
     pub base: u64,
     pub last_cnt_read: u64,
@@ -16,7 +16,7 @@ pub struct T4 {
 }
 
 // A skipping count read: the timer after it, and where the clock stands then. Where that is past its reach the caller refuses the read.
-#[derive(Clone, Copy)]
+#[derive(Clone, Copy, Debug, PartialEq, Eq)]
 pub struct Polled {
     pub t4: T4,
     pub clock: u64,
@@ -91,7 +91,7 @@ impl Polled {
     pub fn skipped(self, before: u64, now: u64) -> u64
         ensures { result ≡ poll_skipped before now self.clock }
     {
-        std::num::wrapping_add_u64(before, most(self.clock, now) - now)
+        before.wrapping_add(self.clock.saturating_sub(now))
     }
 
     // `next_due` after the read: worked out anew where it jumped.
@@ -110,7 +110,7 @@ fn streak(before: u32, apart: Cycles) -> u32
     ensures { result ≡ streak_of before apart.0 }
 {
     if apart.0 < 64 {
-        return std::num::wrapping_add_u32(before, 1);
+        return before.wrapping_add(1);
     }
     0
 }
@@ -123,7 +123,7 @@ fn poll_end(streak: u32, now: u64, hz: u32, event: u64) -> u64
     if streak < 2 {
         return now;
     }
-    let next = least(event, now + (hz as u64) / 50_000);
+    let next = event.min(now + u64::from(hz) / 50_000);
     if now + 1 < next {
         return next - 1;
     }

@@ -3,11 +3,11 @@ ghost use Rattle.std.specs.Prelude.{◌≡◌, ◌^◌, ◌<◌, ◌≤◌, max}
 ghost use Rattle.base.specs.Moments.{clock_max, is_deadline};
 ghost use Rattle.timers.specs.Timer5.{t5_new, t5_period, t5_at, t5_con, t5_cnt, t5_con_written, t5_prd_written};
 
-use base::{NEVER, least, most, rearmed, switched, unless_wide};
+use base::{NEVER, rearmed, switched};
 use times::{Cycles, Mhz6};
 
 #[repr(C)]
-#[derive(Clone, Copy)]
+#[derive(Clone, Copy, Debug, PartialEq, Eq)]
 pub struct T5 {
     pub next: u64,
     pub pending: u64,
@@ -31,16 +31,16 @@ impl T5 {
     fn counts(self) -> Mhz6
         ensures { result.0 ≡ max self.prd 1 }
     {
-        let prd = most(self.prd as u64, 1) as u32;
-        Mhz6(prd)
+        Mhz6(self.prd.max(1))
     }
 
     // Their time, at least a cycle.
+    #[tactic(auto, using(base::specs::Tests::tests), unfolding(crate::specs::Timer5::t5_period))]
     fn period(self, hz: u32) -> Cycles
         ensures result_value { result.0 ≡ t5_period self hz }
         ensures bounded { (0 < result.0) × (result.0 ≤ 2 ^ 42) }
     {
-        Cycles(most(times::cycles_of_mhz6(self.counts(), hz).0, 1))
+        Cycles(times::cycles_of_mhz6(self.counts(), hz).0.max(1))
     }
 
     // What the moment makes of it.
@@ -67,6 +67,7 @@ impl T5 {
     }
 
     // How far into the period it is; 0 where the deadline is past.
+    #[tactic(auto, using(base::specs::Tests::tests), unfolding(crate::specs::Timer5::t5_cnt, crate::specs::Timer5::t5_period))]
     pub fn read_cnt(self, now: u64, hz: u32) -> Mhz6
         ensures { result.0 ≡ t5_cnt self now hz }
     {
@@ -80,11 +81,12 @@ impl T5 {
             return Mhz6(0);
         }
         let period = self.period(hz).0;
-        let into = period - least(self.next - now, period);
+        let into = period - (self.next - now).min(period);
         let count = times::mhz6_of_cycles(Cycles(into), hz).0 % self.counts().0;
         Mhz6(count)
     }
 
+    #[tactic(auto, using(base::specs::Tests::tests), unfolding(crate::specs::Timer5::t5_con_written))]
     pub fn write_con(mut self, v: u32, now: u64, hz: u32) -> Self
         requires { now ≤ clock_max }
         ensures { result ≡ t5_con_written self v now hz }
@@ -92,7 +94,9 @@ impl T5 {
         let was = self.con & 1 != 0;
         let fresh = now + self.period(hz).0;
         self.next = switched(was, v & 1 != 0, self.next, fresh);
-        self.pending = unless_wide(v & 0x4000 != 0, self.pending);
+        if v & 0x4000 != 0 {
+            self.pending = 0;
+        }
         self.con = v & !0xc000;
         self
     }

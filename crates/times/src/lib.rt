@@ -28,7 +28,7 @@ ghost use Rattle.times.specs.Clocks.{
 ghost use Rattle.times.specs.Divider.{divider_of};
 ghost use Rattle.times.specs.Watchdog.{wdt_ms};
 
-use base::{most, product};
+use base::product;
 pub use wide::{mul_div, quotient};
 
 // Processor cycles: a length of time, or the time since the start.
@@ -63,7 +63,7 @@ pub const MIDI_BAUD: u64 = 31_250;
 pub fn mhz24_of_cycles(c: Cycles, hz: u32) -> Mhz24
     ensures { result.0 ≡ mhz24_of_cycles c.0 hz }
 {
-    Mhz24(mul_div(c.0, T4_HZ, hz as u64))
+    Mhz24(mul_div(c.0, T4_HZ, u64::from(hz)))
 }
 
 pub fn cycles_of_mhz24(n: Mhz24, hz: u32) -> Cycles
@@ -77,7 +77,7 @@ pub fn cycles_of_mhz24(n: Mhz24, hz: u32) -> Cycles
 pub fn mhz6_of_cycles(c: Cycles, hz: u32) -> Mhz6
     ensures { result.0 ≡ mhz6_of_cycles c.0 hz }
 {
-    Mhz6(mul_div(c.0, T5_HZ, hz as u64))
+    Mhz6(mul_div(c.0, T5_HZ, u64::from(hz)))
 }
 
 pub fn cycles_of_mhz6(n: Mhz6, hz: u32) -> Cycles
@@ -100,7 +100,7 @@ pub fn cycles_of_uart(n: UartClocks, hz: u32) -> Cycles
 pub fn midi_byte_time(hz: u32) -> Cycles
     ensures { result.0 ≡ byte_time hz }
 {
-    Cycles(most((hz as u64) * MIDI_BYTE_BITS / MIDI_BAUD, 1))
+    Cycles((u64::from(hz) * MIDI_BYTE_BITS / MIDI_BAUD).max(1))
 }
 
 // ---- milliseconds -----------------------------------------------------------
@@ -109,14 +109,14 @@ pub fn midi_byte_time(hz: u32) -> Cycles
 pub fn ms_of_cycles(c: Cycles, hz: u32) -> u64
     ensures { result ≡ low64 (ms_of_cycles c.0 hz) }
 {
-    quotient(c.0, 1000, hz as u64)
+    quotient(c.0, 1000, u64::from(hz))
 }
 
 // Exact wherever the quotient fits 64 bits, which it does for every time up to 2^34 ms; else its low 64 bits.
 pub fn cycles_of_ms(ms: u64, hz: u32) -> Cycles
     ensures { result.0 ≡ low64 (cycles_of_ms ms hz) }
 {
-    Cycles(quotient(ms, hz as u64, 1000))
+    Cycles(quotient(ms, u64::from(hz), 1000))
 }
 
 // How long a key's force takes to its new value.
@@ -135,9 +135,9 @@ pub fn ms_cycles(time: RampTime, hz: u32) -> Cycles
     ensures { result.0 ≡ ramp_cycles time hz }
 {
     match time {
-        RampTime::Press => Cycles((hz as u64) * 3 / 2000),
-        RampTime::Release => Cycles((hz as u64) / 125),
-        RampTime::Pressure => Cycles((hz as u64) / 50),
+        RampTime::Press => Cycles(u64::from(hz) * 3 / 2000),
+        RampTime::Release => Cycles(u64::from(hz) / 125),
+        RampTime::Pressure => Cycles(u64::from(hz) / 50),
     }
 }
 
@@ -149,9 +149,9 @@ pub fn spi1_cycles(bytes: u32, baud: u32, hz: u32) -> Cycles
     ensures result_value { result.0 ≡ spi1_cycles bytes baud hz }
     ensures bounded { result.0 < 2 ^ 40 }
 {
-    let clk = 60_000_000 / ((baud as u64) + 1);
-    let bits = (most(bytes as u64, 1) * 8) as u32;
-    Cycles(most(product(bits, hz) / clk, 1))
+    let clk = 60_000_000 / (u64::from(baud) + 1);
+    let bits = bytes.max(1) * 8;
+    Cycles((product(bits, hz) / clk).max(1))
 }
 
 // An SPI2 transfer's cycles: 16 * (baud + 1) clocks of 48 MHz a byte, so baud + 1 of 3 MHz. No bytes count as one.
@@ -160,8 +160,8 @@ pub fn spi2_cycles(bytes: u32, baud: u32, hz: u32) -> Cycles
     ensures result_value { result.0 ≡ spi2_cycles bytes baud hz }
     ensures bounded { result.0 < 2 ^ 41 }
 {
-    let clocks = product(most(bytes as u64, 1) as u32, baud + 1) as u32;
-    Cycles(most(product(clocks, hz) / 3_000_000, 1))
+    let clocks = bytes.max(1) * (baud + 1);
+    Cycles((product(clocks, hz) / 3_000_000).max(1))
 }
 
 // ---- divider and watchdog ---------------------------------------------------

@@ -3,7 +3,7 @@ use Rattle.std.proofs.Common.{◌≡◌, ℕ, ◌+◌, ◌-◌, ◌^◌, ◌<◌
 use Rattle.base.specs.Moments.{never, clock_max}
 use Rattle.times.specs.Clocks.{byte_time}
 use Rattle.uart.specs.declared.Uart.{Uart}
-use Rattle.uart.specs.declared.Byte.TheVariants.{Got}
+use Rattle.std.specs.Prelude.{Some}
 use Rattle.uart.specs.Facts.{UartOk}
 use Rattle.uart.proofs.Queue.{offer-room}
 use Rattle.uart.specs.Uart.{queue_bytes, queued, offer_of, front_gone, stored, updated, front_due, shorter, timeout_of, receive_at, timeout_at}
@@ -19,10 +19,10 @@ front-later u now hz c = go (eqb u.count 0)
 
 module _ (u : Uart) (memory : List ℕ) (now hz : ℕ) where
   -- a byte that leaves was due
-  pub not-early : (addr b : ℕ) → (receive_at u memory now hz).byte ≡ Got addr b → u.next ≤ now
+  pub not-early : (addr b : ℕ) → (receive_at u memory now hz).byte ≡ Some (record { addr = addr; b = b }) → u.next ≤ now
   not-early addr b =
       receive-outcome u memory now hz
-      (λ r. r.byte ≡ Got addr b → u.next ≤ now)
+      (λ r. r.byte ≡ Some (record { addr = addr; b = b }) → u.next ≤ now)
       (λ h e. absurd (let z : ◌≡◌ {A = ℕ} 0 1 = cc in omega arith))
       (λ h g e. h)
       (λ h g r e. h)
@@ -64,19 +64,19 @@ module _ (u : Uart) (memory : List ℕ) (now hz : ℕ) where
       (λ h g r. receive-quiet (missed u now hz).uart memory now hz (front-later (shorter u) now hz c))
 
   -- a byte that is received rearms the timeout from now
-  pub rearms : (addr b : ℕ) → (receive_at u memory now hz).byte ≡ Got addr b
+  pub rearms : (addr b : ℕ) → (receive_at u memory now hz).byte ≡ Some (record { addr = addr; b = b })
       → (receive_at u memory now hz).uart.ot_next ≡ now + timeout_of u hz
   unfolding front_gone stored updated
   rearms addr b =
       receive-outcome u memory now hz
-      (λ r. r.byte ≡ Got addr b → r.uart.ot_next ≡ now + timeout_of u hz)
+      (λ r. r.byte ≡ Some (record { addr = addr; b = b }) → r.uart.ot_next ≡ now + timeout_of u hz)
       (λ h e. absurd (let z : ◌≡◌ {A = ℕ} 0 1 = cc in omega arith))
       (λ h g e. absurd (let z : ◌≡◌ {A = ℕ} 0 1 = cc in omega arith))
       (λ h g r e. refl)
       (λ h g r e. absurd (let z : ◌≡◌ {A = ℕ} 0 1 = cc in omega arith))
 
   -- so the timeout does not come at the moment of a byte, nor within a byte time of it
-  pub no-timeout : (addr b later : ℕ) → (receive_at u memory now hz).byte ≡ Got addr b → later < now + byte_time hz
+  pub no-timeout : (addr b later : ℕ) → (receive_at u memory now hz).byte ≡ Some (record { addr = addr; b = b }) → later < now + byte_time hz
       → timeout_at (receive_at u memory now hz).uart later ≡ (receive_at u memory now hz).uart
   no-timeout addr b later e h =
       timeout-quiet (receive_at u memory now hz).uart later (rw (rearms addr b e) (omega arith))

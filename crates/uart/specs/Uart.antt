@@ -1,6 +1,6 @@
 -- UART1 (0x12100), MIDI in: the queue behind the jack, a byte's arrival, the timeout, and each register as it reads and is written, in the
 -- source's order.
-use Rattle.std.specs.Prelude.{ℕ, ◌+◌, ◌-◌, ◌%◌, ◌^◌, min, max, Bool, cond, not, ◌&&◌, ◌||◌, List, ◌==◌, bit_and, bit_or, nat_le, nat_lt, slice_index, slice_set}
+use Rattle.std.specs.Prelude.{ℕ, ◌+◌, ◌-◌, ◌%◌, ◌^◌, min, max, Bool, cond, not, ◌&&◌, ◌||◌, List, ◌==◌, bit_and, bit_or, nat_le, nat_lt, slice_index, slice_set, Option, Some, None}
 use Rattle.base.specs.Bits.{is_set, unless_of, when_of}
 use Rattle.base.specs.Moments.{never, is_deadline}
 use Rattle.base.specs.Ring.{ring}
@@ -9,7 +9,6 @@ use Rattle.times.specs.Clocks.{byte_time, cycles_of_uart}
 use Rattle.uart.specs.declared.Uart.{Uart}
 use Rattle.uart.specs.declared.Received.{Received}
 use Rattle.uart.specs.declared.Byte.{Byte}
-use Rattle.uart.specs.declared.Byte.TheVariants.{Got, None}
 
 abbrev pub uart_new : Uart
 uart_new =
@@ -160,7 +159,7 @@ stored u now hz =
 -- a byte that has arrived: received, or lost
 unfoldable pub arrived : Uart → ℕ → ℕ → ℕ → Received
 arrived u b now hz =
-    cond (receives u) (record { uart = stored u now hz; byte = Got (byte_addr u) b }) (record { uart = lost u; byte = None })
+    cond (receives u) (record { uart = stored u now hz; byte = Some (record { addr = byte_addr u; b = b }) }) (record { uart = lost u; byte = None })
 
 -- "A byte leaves no earlier than its due time, one a step": before the deadline nothing, at it the first byte. An empty queue has none to
 -- leave, whatever its deadline (`pop_front()?`)
@@ -171,8 +170,8 @@ receive_at u memory now hz =
     (arrived (front_gone u now hz) (slice_index memory u.place) now hz))
 
 -- how many bytes a step hands to the host
-abbrev pub handed : Byte → ℕ
-handed (Got addr b) = 1
+abbrev pub handed : Option Byte → ℕ
+handed (Some x) = 1
 handed None = 0
 
 -- ---- the timeout

@@ -4,7 +4,7 @@
 // `timeout_at`. A flag is 0 or not 0, as wide as leaves the record without a hole.
 #![tactic(auto)]
 
-ghost use Rattle.std.specs.Prelude.{◌≡◌, ◌^◌, ◌<◌, ◌≤◌, length, if◌then◌else◌};
+ghost use Rattle.std.specs.Prelude.{◌≡◌, ◌^◌, ◌<◌, ◌≤◌, length};
 ghost use Rattle.base.specs.Moments.{clock_max};
 ghost use Rattle.uart.specs.Uart.{
   queue_bytes,
@@ -36,7 +36,7 @@ ghost use Rattle.uart.specs.Uart.{
   uart_whole,
 };
 
-use base::{NEVER, least, most, unless, when};
+use base::{NEVER, when};
 use times::{Cycles, UartClocks};
 
 #[repr(C)]
@@ -68,16 +68,16 @@ pub struct Uart {
 }
 
 // A byte that the DMA writes, and where.
-#[derive(Clone, Copy)]
-pub enum Byte {
-    Got { addr: u32, b: u8 },
-    None,
+#[derive(Clone, Copy, Debug, PartialEq, Eq)]
+pub struct Byte {
+    pub addr: u32,
+    pub b: u8,
 }
 
 #[derive(Clone, Copy)]
 pub struct Received {
     pub uart: Uart,
-    pub byte: Byte,
+    pub byte: Option<Byte>,
 }
 
 // The most bytes waiting behind the jack: a second of them.
@@ -133,6 +133,7 @@ impl Uart {
 
     // A byte comes in at the jack. A USB keyboard can send faster than the jack takes it: past a second's worth of backlog bytes are lost
     // rather than played late.
+    #[tactic(auto, using(base::specs::Tests::tests), unfolding(crate::specs::Uart::offer_of, crate::specs::Uart::offer_in, crate::specs::Uart::queued))]
     pub fn offer(mut self, queue: &mut [u8], b: u8, now: u64, hz: u32) -> Self
         requires { (length queue.old ≡ queue_bytes) × (self.place < queue_bytes) × (self.dropped < 2 ^ 63) × (now ≤ clock_max) }
         ensures value { result ≡ offer_of self now hz }
@@ -146,13 +147,14 @@ impl Uart {
         queue[last] = b;
         self.count = waiting + 1;
         if waiting == 0 {
-            self.next = least(self.next, self.front_due(now, hz));
+            self.next = self.next.min(self.front_due(now, hz));
             return self;
         }
         self
     }
 
     // What the moment makes of the queue, and the byte that it finds arrived.
+    #[tactic(auto, using(base::specs::Tests::tests), unfolding(crate::specs::Uart::receive_at, crate::specs::Uart::front_gone))]
     pub fn receive_at(self, queue: &[u8], now: u64, hz: u32) -> Received
         requires { (length queue.now ≡ queue_bytes) × (self.place < queue_bytes) × (self.wr < 65536)
             × (self.dropped < 2 ^ 63) × (now ≤ clock_max) }
@@ -161,13 +163,13 @@ impl Uart {
         if now < self.next {
             return Received {
                 uart: self,
-                byte: Byte::None,
+                byte: None,
             };
         }
         if self.count == 0 {
             return Received {
                 uart: self,
-                byte: Byte::None,
+                byte: None,
             };
         }
         let place = self.place as usize;
@@ -176,6 +178,7 @@ impl Uart {
     }
 
     // The queue's first byte leaves it; the next one's time is from now, however late this one was.
+    #[tactic(auto, using(base::specs::Tests::tests), unfolding(crate::specs::Uart::front_gone))]
     fn front_gone(mut self, now: u64, hz: u32) -> Self
         requires { (self.place < queue_bytes) × (0 < self.count) × (now ≤ clock_max) }
         ensures { result ≡ front_gone self now hz }
@@ -190,7 +193,7 @@ impl Uart {
     fn ring_len(self) -> u32
         ensures { result ≡ ring_len self }
     {
-        base::wrapping_sub(self.rxeadr, self.rxsadr)
+        self.rxeadr.wrapping_sub(self.rxsadr)
     }
 
     // On, with RX DMA and a ring to write to.
@@ -202,6 +205,7 @@ impl Uart {
     }
 
     // A byte that has arrived is received, or lost.
+    #[tactic(auto, using(base::specs::Tests::tests), unfolding(crate::specs::Uart::arrived))]
     fn arrived(self, b: u8, now: u64, hz: u32) -> Received
         requires { (self.wr < 65536) × (self.dropped < 2 ^ 63) × (now ≤ clock_max) }
         ensures { result ≡ arrived self b now hz }
@@ -209,24 +213,27 @@ impl Uart {
         if !self.receives() {
             return Received {
                 uart: self.lost(),
-                byte: Byte::None,
+                byte: None,
             };
         }
-        let addr = std::num::wrapping_add_u32(self.rxsadr, self.wr % self.ring_len());
+        let addr = self.rxsadr.wrapping_add(self.wr % self.ring_len());
         Received {
             uart: self.stored(now, hz),
-            byte: Byte::Got { addr, b },
+            byte: Some(Byte { addr, b }),
         }
     }
 
     // The DMA has written a byte; the silence after it begins.
+    #[tactic(auto, using(base::specs::Tests::tests), unfolding(crate::specs::Uart::stored))]
     fn stored(mut self, now: u64, hz: u32) -> Self
         requires { (0 < ring_len self) × (self.wr < 65536) × (now ≤ clock_max) }
         ensures { result ≡ stored self now hz }
     {
         self.wr = (self.wr + 1) % self.ring_len();
-        self.since = std::num::wrapping_add_u32(self.since, 1);
-        self.rpnd = either((self.rxcnt != 0) & (self.rxcnt <= self.since), 1, self.rpnd);
+        self.since = self.since.wrapping_add(1);
+        if (self.rxcnt != 0) & (self.rxcnt <= self.since) {
+            self.rpnd = 1;
+        }
         self.ot_next = now + self.timeout(hz).0;
         self.updated()
     }
@@ -236,10 +243,8 @@ impl Uart {
         ensures result_value { result.0 ≡ timeout_of self hz }
         ensures bounded { result.0 ≤ 2 ^ 39 }
     {
-        Cycles(most(
-            times::cycles_of_uart(UartClocks(self.otcnt), hz).0,
-            times::midi_byte_time(hz).0,
-        ))
+        let silence = times::cycles_of_uart(UartClocks(self.otcnt), hz).0;
+        Cycles(silence.max(times::midi_byte_time(hz).0))
     }
 
     // The interrupt line: a pending whose interrupt is enabled.
@@ -251,14 +256,16 @@ impl Uart {
             | ((self.con0 & 0x04 != 0) & (self.tpnd != 0))
     }
 
+    #[tactic(auto, using(base::specs::Tests::tests), unfolding(crate::specs::Uart::updated))]
     fn updated(mut self) -> Self
         ensures { result ≡ updated self }
     {
-        self.irq = when(self.line(), 1);
+        self.irq = u32::from(self.line());
         self
     }
 
     // What the moment makes of the timeout.
+    #[tactic(auto, using(base::specs::Tests::tests), unfolding(crate::specs::Uart::timeout_at, crate::specs::Uart::timed_out))]
     pub fn timeout_at(mut self, now: u64) -> Self
         ensures { result ≡ timeout_at self now }
     {
@@ -283,15 +290,23 @@ impl Uart {
     }
 
     // Bit 7 latches the count of bytes; bits 10, 12, 13 clear the pendings.
+    #[tactic(auto, using(base::specs::Tests::tests), unfolding(crate::specs::Uart::con0_written))]
     pub fn write_con0(mut self, v: u32) -> Self
         ensures { result ≡ con0_written self v }
     {
-        let latch = v & 0x80 != 0;
-        self.hrxcnt = either(latch, self.since, self.hrxcnt);
-        self.since = unless(latch, self.since);
-        self.otpnd = unless(v & 0x400 != 0, self.otpnd);
-        self.rpnd = unless(v & 0x1000 != 0, self.rpnd);
-        self.tpnd = unless(v & 0x2000 != 0, self.tpnd);
+        if v & 0x80 != 0 {
+            self.hrxcnt = self.since;
+            self.since = 0;
+        }
+        if v & 0x400 != 0 {
+            self.otpnd = 0;
+        }
+        if v & 0x1000 != 0 {
+            self.rpnd = 0;
+        }
+        if v & 0x2000 != 0 {
+            self.tpnd = 0;
+        }
         self.con0 = v & 0x037f;
         self.updated()
     }
@@ -327,6 +342,7 @@ impl Uart {
     }
 
     // The TX DMA's count, whatever is written: it is sent at once (MIDI thru has no pin here).
+    #[tactic(auto, using(base::specs::Tests::tests), unfolding(crate::specs::Uart::txcnt_written))]
     pub fn write_txcnt(mut self) -> Self
         ensures { result ≡ txcnt_written self }
     {
@@ -350,7 +366,7 @@ impl Uart {
     pub fn next_event(self) -> u64
         ensures { result ≡ uart_next self }
     {
-        least(self.next, self.ot_next)
+        self.next.min(self.ot_next)
     }
 
     // The queue is empty exactly when it has no deadline.
@@ -361,6 +377,7 @@ impl Uart {
     }
 
     // Its part of a whole record.
+    #[tactic(auto, using(base::specs::Tests::tests), unfolding(crate::specs::Uart::uart_whole))]
     pub fn whole(self) -> bool
         ensures { result ≡ uart_whole self }
     {
@@ -372,13 +389,4 @@ impl Uart {
             & (self.wr < 65536)
             & (self.rxcnt <= 0xffff)
     }
-}
-
-fn either(test: bool, yes: u32, no: u32) -> u32
-    ensures { result ≡ (if test then yes else no) }
-{
-    if test {
-        return yes;
-    }
-    no
 }

@@ -1,17 +1,16 @@
+use Rattle.std.proofs.Common.{eq-eqb, ne_eqb}
 use Rattle.adc.proofs.Turns.{least-none, least_on, least-off}
-use Rattle.keys.specs.Keys.{ramps_of}
-use borrow.Author.Tests.{eq-eqb, ne_eqb}
-use native.Mathlib.Omega.{arith}
-use borrow.Author.Rules.{rules}
+use Rattle.adc.proofs.row_least.Goals.{then-latched-col-eq0, else-latched-col-eq0}
 use Rattle.adc.proofs.row_least.Goals as goal
 
 pub loop-col-init : goal.loop-col-init
-loop-col-init c = (search rules, least-none c.args.map (ramps_of c.args.t0.now c.args.dur.now c.args.from.now c.args.to.now) c.args.latched c.args.row c.args.now c.args.ohms, search rules)
-
-pub loop-col-preserved-then-latched-c-eq0 : goal.loop-col-preserved-then-latched-c-eq0
-loop-col-preserved-then-latched-c-eq0 c =
-    let b = c.key_value.ensures.bounded in
-    (omega arith, rw (c.least-v.ensures, c.key_value.ensures.value, c.id.ensures) (least_on c.args.map (ramps_of c.args.t0.now c.args.dur.now c.args.from.now c.args.to.now) c.args.latched c.args.row c.args.now c.args.ohms c.loop-col.col c.loop-col.v c.loop-col.invariant.1 (eq-eqb _ _ c.if-latched-c-eq0.true)), rw c.least-v.ensures (omega arith))
+loop-col-init c = least-none c.args.map c.args.ramps.now c.args.latched c.args.row c.args.now c.args.ohms
 
 pub loop-col-preserved : goal.loop-col-preserved
-loop-col-preserved c = (omega arith, least-off c.args.map (ramps_of c.args.t0.now c.args.dur.now c.args.from.now c.args.to.now) c.args.latched c.args.row c.args.now c.args.ohms c.loop-col.col c.loop-col.v c.loop-col.invariant.1 (ne_eqb _ _ c.if-latched-c-eq0.false), c.loop-col.invariant.2)
+loop-col-preserved c =
+    let a = c.args in
+    let l = c.loop-col in
+    elim c.if-latched-col-eq0.branch [
+      | then-latched-col-eq0 w ↦ rw (w.v-is, w.min-v.ensures, w.key_value.ensures.value, w.id.ensures) (least_on a.map a.ramps.now a.latched a.row a.now a.ohms l.col l.v l.invariant (eq-eqb _ _ w.if-latched-col-eq0.true))
+      | else-latched-col-eq0 w ↦ rw w.v-is (least-off a.map a.ramps.now a.latched a.row a.now a.ohms l.col l.v l.invariant (ne_eqb _ _ w.if-latched-col-eq0.false))
+    ]

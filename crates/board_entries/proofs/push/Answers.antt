@@ -10,8 +10,8 @@ use Rattle.board_entries.proofs.push.Goals as goal
 within : (b : Board) (f : Front) (at : ℕ) (s : Spot) → s ≡ placed_of b f at → s.ok ≡ true → s.place < f.len
 within b f at s e = subst (λ (x : Spot). x.ok ≡ true → x.place < f.len) (sym e) (placed-within b f at)
 
-pub offset_bounds-script-p : goal.offset_bounds-script-p
-offset_bounds-script-p c = let h = within c.args.b c.look-f.result c.args.time c.placed-s.result c.placed-s.ensures (sym c.fits.ensures ∙ c.if-fits.true) in let n = ap (λ (f : Front). f.len) c.look-f.ensures in record { fits = omega (arith, h, n) }
+pub offset_bounds-script-s : goal.offset_bounds-script-s
+offset_bounds-script-s c = let h = within c.args.b c.look-f.result c.args.time c.placed-s.result c.placed-s.ensures c.if-s.true in let n = ap (λ (f : Front). f.len) c.look-f.ensures in record { fits = omega (arith, h, n) }
 
-pub bounds-script-p : goal.bounds-script-p
-bounds-script-p c = let h = within c.args.b c.look-f.result c.args.time c.placed-s.result c.placed-s.ensures (sym c.fits.ensures ∙ c.if-fits.true) in let n = ap (λ (f : Front). f.len) c.look-f.ensures in omega (arith, h, n)
+pub bounds-script-s : goal.bounds-script-s
+bounds-script-s c = let h = within c.args.b c.look-f.result c.args.time c.placed-s.result c.placed-s.ensures c.if-s.true in let n = ap (λ (f : Front). f.len) c.look-f.ensures in omega (arith, h, n)

@@ -1,11 +1,11 @@
-use Rattle.std.proofs.Common.{add-one, arith, rules}
+use Rattle.std.proofs.Common.{add-one, rules}
 use Rattle.calls_port.specs.Ports.{sum_of}
 use Rattle.calls_port.proofs.sum.Goals as goal
 
-pub loop-i-init : goal.loop-i-init
+pub loop-b-init : goal.loop-b-init
 unfolding sum_of
-loop-i-init c = search rules
+loop-b-init c = search rules
 
-pub loop-i-preserved : goal.loop-i-preserved
+pub loop-b-preserved : goal.loop-b-preserved
 unfolding sum_of
-loop-i-preserved c = (omega (arith, c.loop-i-test.true), rw (c.times_prime-h.ensures, c.loop-i.invariant.1, c.wide.ensures, add-one))
+loop-b-preserved c = rw (add-one, c.loop-b.invariant) (search rules)

@@ -1,7 +1,10 @@
-use Rattle.base.specs.AllTo.{all_to}
-use Rattle.encoders.specs.Encoder.{encs_whole}
+use Rattle.std.proofs.Common.{◌≡◌, length, rules}
+use Rattle.base.proofs.Folds.{tested_by_fold}
+use Rattle.encoders.specs.Encoder.{enc_new, enc_whole, encs_whole}
 use Rattle.encoders.proofs.encs_whole.Goals as goal
 
 pub returns : goal.returns
-unfolding encs_whole all_to
-returns c = rw (c.whole.ensures, c.whole-2.ensures, c.whole-3.ensures, c.whole-4.ensures, c.whole-5.ensures, c.whole-6.ensures, c.whole-7.ensures, c.whole-8.ensures)
+unfolding encs_whole
+returns c =
+    let eight : length c.args.e ≡ 8 = search (rules, c.well_formed) in
+    tested_by_fold _ enc_whole enc_new c.args.e 8 c.fold.result c.fold.ensures.ran (cc) eight (λ ok x b q k. search rules)

@@ -1,10 +1,9 @@
 use Rattle.line_answer.proofs.Turns.{turn, ended, lights-more, lights-done}
 use mathlib.Core.Path.{◌∙◌}
-use borrow.Author.Rules.{rules}
 use Rattle.line_answer.proofs.put_lights.Goals as goal
 
 pub loop-id-preserved : goal.loop-id-preserved
-loop-id-preserved c = (search rules, c.put_light-end.auto.out ∙ c.loop-id.invariant.1, turn _ _ _ _ _ _ _ _ _ _ (lights-more c.args.lights.now c.loop-id.id c.loop-id-test.true) c.put_light-end.ensures c.loop-id.invariant.2)
+loop-id-preserved c = (c.put_light-end.auto.out ∙ c.loop-id.invariant.0, turn _ _ _ _ _ _ _ _ _ _ (lights-more c.args.lights.now c.loop-id.id (rw c.told-lights c.loop-id-test.true)) c.put_light-end.ensures c.loop-id.invariant.1)
 
 pub returns : goal.returns
-returns c = ended _ _ _ _ _ _ (lights-done c.args.lights.now c.loop-id.id c.loop-id-test.false) c.loop-id.invariant.2
+returns c = ended _ _ _ _ _ _ (lights-done c.args.lights.now c.loop-id.id (rw c.told-lights c.loop-id-test.false)) c.loop-id.invariant.1

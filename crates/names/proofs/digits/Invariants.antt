@@ -1,13 +1,10 @@
-use mathlib.Core.Path.{◌≡◌}
-use Prim.Native.Nat.{◌-◌, ◌≤◌, ◌<◌}
-use lib.ListN.{length, drop}
+use Rattle.std.proofs.Common.{◌≡◌, ◌<◌, drop}
 use Rattle.names.specs.Ascii.{uppers}
 use Rattle.names.specs.Numbers.{digits_after, digits}
 use Rattle.names.proofs.digits.Given as goal
 
-abbrev pub invariant-loop-i : goal.invariant-loop-i
-invariant-loop-i l =
-    (l.i ≤ length l.name) × (l.value < l.count) × (digits (drop l.from (uppers l.name)) ≡ digits_after l.value (drop l.i (uppers l.name)))
-
-abbrev pub decreases-loop-i : goal.decreases-loop-i
-decreases-loop-i l = length l.name - l.i
+abbrev pub invariant-loop-b : goal.invariant-loop-b
+invariant-loop-b l = record {
+  small : l.value < l.count;
+  read : digits (uppers l.name) ≡ digits_after l.value (drop l.b-index (uppers l.name));
+}

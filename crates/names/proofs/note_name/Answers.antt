@@ -1,14 +1,13 @@
-use Rattle.names.proofs.OnAnswers.{was-some, was-none}
-use Rattle.names.specs.Midi.{semitone_of, note_number}
+use Rattle.std.proofs.Common.{sym}
+use Rattle.std.specs.Char.{to_ascii_uppercase}
+use Rattle.names.proofs.OnNotes.{letter_of_note}
 use Rattle.names.proofs.note_name.Goals as goal
 
-pub returns-in-Of : goal.returns-in-Of
-unfolding note_number
-returns-in-Of c =
-    rw (← c.at.ensures, was-some (semitone_of c.at.result) c.semitone-letter.ensures c.in-Of.is)
-    c.after_letter.ensures
-
-pub returns-in-None : goal.returns-in-None
-unfolding note_number
-returns-in-None c =
-    rw (← c.at.ensures, was-none (semitone_of c.at.result) c.semitone-letter.ensures c.in-None.is)
+pub returns : goal.returns
+returns c =
+    rw (
+      c.in_ok-letter.ensures.cases.0,
+      letter_of_note c.in_ok-letter.letter.now c.in_ok-letter.rest.now {semitone = c.in_ok-semitone.semitone}
+          (rw (← c.to_ascii_uppercase.ensures.value) (sym c.in_ok-semitone.ensures)),
+    )
+    (c.after_letter.ensures (to_ascii_uppercase c.in_ok-letter.letter.now))

@@ -1,9 +1,16 @@
+use Rattle.std.proofs.Common.{◌≡◌, Bool, true, false, refl}
+use mir.Val.{bool_byte}
+use Rattle.records.specs.Layout.{flag_of}
 use Rattle.records.specs.Layout.{length_of}
 use Rattle.records.proofs.body_of.Goals as goal
 
+flag_is : (down : Bool) → bool_byte down ≡ flag_of down
+flag_is true = refl
+flag_is false = refl
+
 pub returns-in-Key : goal.returns-in-Key
 unfolding length_of
-returns-in-Key c = rw (c.in-Key.is, ← c.flag.ensures) (c.byte_and.ensures 1)
+returns-in-Key c = rw c.in-Key.is (rw (c.from.ensures, flag_is c.in-Key.down) at (c.byte_and.ensures 1))
 
 pub returns-in-Enc : goal.returns-in-Enc
 unfolding length_of

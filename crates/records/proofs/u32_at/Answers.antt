@@ -1,8 +1,17 @@
-use native.Mathlib.Omega.{arith}
-use Rattle.records.proofs.Numbers.{number-halves}
+use Rattle.std.proofs.Common.{◌+◌, arith}
+use Rattle.records.specs.Le.{unle}
+use Rattle.records.proofs.Numbers.{number-next}
 use Rattle.records.proofs.u32_at.Goals as goal
 
 pub returns : goal.returns
+unfolding unle
 returns c =
     let a = c.args in
-    omega (arith, number-halves 2 a.i a.s.now (omega arith))
+    omega (
+      arith,
+      c.from_le_bytes.ensures,
+      number-next a.i (a.i + 1) 3 a.s.now (omega arith) (omega arith),
+      number-next (a.i + 1) (a.i + 2) 2 a.s.now (omega arith) (omega arith),
+      number-next (a.i + 2) (a.i + 3) 1 a.s.now (omega arith) (omega arith),
+      number-next (a.i + 3) (a.i + 4) 0 a.s.now (omega arith) (omega arith),
+    )

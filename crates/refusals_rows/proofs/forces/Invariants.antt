@@ -1,10 +1,7 @@
-use Rattle.std.proofs.Common.{◌-◌, ◌≡◌, ◌≤◌}
+use Rattle.std.proofs.Common.{◌≡◌}
 use Rattle.refusals_rows.specs.Rows.{force_from}
 use Rattle.refusals_rows.proofs.Into.{into}
 use Rattle.refusals_rows.proofs.forces.Given as goal
 
 abbrev pub invariant-loop-i : goal.invariant-loop-i
-invariant-loop-i l = record { bound : l.i ≤ 41; made : l.f ≡ into force_from l.i l.row l.initial.f }
-
-abbrev pub decreases-loop-i : goal.decreases-loop-i
-decreases-loop-i l = 41 - l.i
+invariant-loop-i l = l.f ≡ into force_from l.i l.fn.row l.initial.f

@@ -11,13 +11,10 @@ pub loop-i-preserved : goal.loop-i-preserved
 loop-i-preserved c =
     let long : length c.args.row ≡ 41 = search (rules, c.well_formed) in
     let in_row : c.loop-i.i < length c.args.row = omega arith in
-    record {
-      bound = omega arith;
-      made = into-turn low c.loop-i.i c.args.row (replicate 41 0) c.loop-i.l 0 c.low.result c.loop-i.invariant.made c.low.ensures in_row;
-    }
+    into-turn low c.loop-i.i c.args.row (replicate 41 0) c.loop-i.l 0 c.low.result c.loop-i.invariant c.low.ensures in_row
 
 pub returns : goal.returns
 returns c =
     let long : length c.args.row ≡ 41 = search (rules, c.well_formed) in
     let past : length c.args.row ≤ c.loop-i.i = omega arith in
-    c.loop-i.invariant.made ∙ into-all low c.loop-i.i c.args.row (replicate 41 0) past (sym long)
+    c.loop-i.invariant ∙ into-all low c.loop-i.i c.args.row (replicate 41 0) past (sym long)

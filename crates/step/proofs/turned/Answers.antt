@@ -20,7 +20,7 @@ pub returns : goal.returns
 unfolding turned_of queue_of out_of
 returns c = let g = c.args.g in let e = c.args.e in
     rw (le-ltb _ _ c.if-g-e.false) (
-      rw (c.reached.ensures, c.encode_timed-wrote.ensures.answer, c.front_place.ensures, c.apply-g.ensures.value, c.scripted-g-2.ensures, c.taken-rest.ensures, has_room g e _ _ c.requires),
+      rw (c.unwrap_or.ensures, c.encode_timed-wrote.ensures.answer, c.front_place.ensures, c.apply-g.ensures.value, c.scripted-g-2.ensures, c.taken-rest.ensures, has_room g e _ _ c.requires),
       c.apply-g.ensures.memory
           ∙ ap (λ (b : Board). apply_in b e.action c.args.queue.now) (c.scripted-g-2.ensures ∙ ap (λ (s : Script). with_chip g.board (with_script g.board.chip s)) c.taken-rest.ensures),
       c.encode_timed-wrote.ensures.bytes,

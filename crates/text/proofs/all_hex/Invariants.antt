@@ -1,11 +1,7 @@
 use Rattle.text.specs.Numerals.{all_digits}
-use lib.ListN.{length, drop}
-use Prim.Native.Nat.{◌-◌}
+use lib.ListN.{drop}
 use mathlib.Core.Path.{◌≡◌}
 use Rattle.text.proofs.all_hex.Given as goal
 
-abbrev pub invariant-loop-i : goal.invariant-loop-i
-invariant-loop-i l = all_digits 16 l.s ≡ all_digits 16 (drop l.i l.s)
-
-abbrev pub decreases-loop-i : goal.decreases-loop-i
-decreases-loop-i l = length l.s - l.i
+abbrev pub invariant-loop-b : goal.invariant-loop-b
+invariant-loop-b l = all_digits 16 l.s ≡ all_digits 16 (drop l.b-index l.s)

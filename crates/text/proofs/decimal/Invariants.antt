@@ -1,16 +1,14 @@
 use Rattle.text.specs.Numerals.{all_digits, value_after, value_of}
 use lib.ListN.{length, drop}
-use Prim.Native.Nat.{◌-◌, ◌≤◌, ◌<◌, ◌^◌}
+use Prim.Native.Nat.{◌<◌, ◌^◌}
 use mathlib.Core.Path.{◌≡◌}
 use Rattle.text.proofs.decimal.Given as goal
 
-abbrev pub invariant-loop-i : goal.invariant-loop-i
-invariant-loop-i l =
-    (l.i ≤ length l.s)
-    × (0 < length l.s)
-    × (l.n < 2 ^ 64)
-    × (all_digits 10 l.s ≡ all_digits 10 (drop l.i l.s))
-    × (value_of 10 l.s ≡ value_after 10 l.n (drop l.i l.s))
-
-abbrev pub decreases-loop-i : goal.decreases-loop-i
-decreases-loop-i l = length l.s - l.i
+abbrev pub invariant-loop-b : goal.invariant-loop-b
+invariant-loop-b l =
+    record {
+      some : 0 < length l.s;
+      fits : l.n < 2 ^ 64;
+      digits : all_digits 10 l.s ≡ all_digits 10 (drop l.b-index l.s);
+      value : value_of 10 l.s ≡ value_after 10 l.n (drop l.b-index l.s);
+    }

@@ -1,24 +1,28 @@
-use Rattle.text.proofs.HexPairs.{nothing-unhexed}
-use Rattle.text.proofs.Parts.{turned, past_end, inside}
+use Rattle.text.proofs.HexPairs.{pairs-digits, dash, no_bytes, no_room_lem, room, pairs-length}
+use borrow.Author.Rules.{rules}
+use mathlib.Core.Path.{sym, ◌∙◌}
 use Rattle.text.proofs.unhex.Goals as goal
 
-pub returns-then-to-from : goal.returns-then-to-from
-returns-then-to-from c =
-    record {
-      answer = rw (turned c.args.line.now c.args.w c.if-to-from.true) (let both = (nothing-unhexed c.args.out.now) in both.0);
-      bytes = rw (turned c.args.line.now c.args.w c.if-to-from.true) (let both = (nothing-unhexed c.args.out.now) in both.1);
-    }
+pub returns-then-is_dash : goal.returns-then-is_dash
+returns-then-is_dash c = let both = dash c.args.s.now c.args.out.now (sym c.is_dash.ensures ∙ c.if-is_dash.true) in record { answer = both.0; bytes = both.1 }
 
-pub returns-then-line-to : goal.returns-then-line-to
-returns-then-line-to c =
+pub returns-then-not-is_pairs : goal.returns-then-not-is_pairs
+returns-then-not-is_pairs c = let both = no_bytes c.args.s.now c.args.out.now (sym c.is_dash.ensures ∙ c.if-is_dash.false) (sym c.is_pairs.ensures ∙ search rules) in record { answer = both.0; bytes = both.1 }
+
+pub returns-then-out-n : goal.returns-then-out-n
+returns-then-out-n c = let both = no_room_lem c.args.s.now c.args.out.now (sym c.is_dash.ensures ∙ c.if-is_dash.false) (sym c.is_pairs.ensures ∙ search rules) c.if-out-n.true in record { answer = both.0; bytes = both.1 }
+
+pub write_pairs-requires : goal.write_pairs-requires
+write_pairs-requires c =
     record {
-      answer = rw (past_end c.args.line.now c.args.w c.if-to-from.false c.if-line-to.true) (let both = (nothing-unhexed c.args.out.now) in both.0);
-      bytes = rw (past_end c.args.line.now c.args.w c.if-to-from.false c.if-line-to.true) (let both = (nothing-unhexed c.args.out.now) in both.1);
+      s_value = pairs-digits c.args.s.now (sym c.is_pairs.ensures ∙ search rules);
+      s_in_bounds = rw pairs-length c.if-out-n.false;
     }
 
 pub returns : goal.returns
 returns c =
+    let p = room c.args.s.now c.args.out.now (sym c.is_dash.ensures ∙ c.if-is_dash.false) (sym c.is_pairs.ensures ∙ search rules) c.if-out-n.false in
     record {
-      answer = rw (inside c.args.line.now c.args.w c.if-to-from.false c.if-line-to.false) (let both = c.unhex_word.ensures in both.answer);
-      bytes = rw (inside c.args.line.now c.args.w c.if-to-from.false c.if-line-to.false) (let both = c.unhex_word.ensures in both.bytes);
+      answer = p.0;
+      bytes = c.write_pairs.ensures ∙ p.1;
     }

@@ -3,18 +3,16 @@ use Rattle.text.specs.Numerals.{all_digits}
 use lib.Seq.{sets}
 use mathlib.Core.Bool.{true}
 use lib.ListN.{length, drop}
-use Prim.Native.Nat.{◌-◌, ◌≤◌, ◌*◌, ◌/◌}
+use Prim.Native.Nat.{◌≤◌, ◌*◌, ◌/◌}
 use mathlib.Core.Path.{◌≡◌}
 use Rattle.text.proofs.write_pairs.Given as goal
 
 abbrev pub invariant-loop-i : goal.invariant-loop-i
 invariant-loop-i l =
-    (l.i ≤ l.n)
-    × (l.n ≡ length l.s / 2)
-    × (l.n ≤ length l.initial.out)
-    × (length l.out ≡ length l.initial.out)
-    × (all_digits 16 (drop (2 * l.i) l.s) ≡ true)
-    × (sets l.out l.i (pairs (drop (2 * l.i) l.s)) ≡ sets l.initial.out 0 (pairs l.s))
-
-abbrev pub decreases-loop-i : goal.decreases-loop-i
-decreases-loop-i l = l.n - l.i
+    record {
+      half : l.i ≤ length l.s / 2;
+      room : length l.s / 2 ≤ length l.initial.out;
+      len : length l.out ≡ length l.initial.out;
+      digits : all_digits 16 (drop (2 * l.i) l.s) ≡ true;
+      bytes : sets l.out l.i (pairs (drop (2 * l.i) l.s)) ≡ sets l.initial.out 0 (pairs l.s);
+    }

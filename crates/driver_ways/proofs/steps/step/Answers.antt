@@ -4,7 +4,7 @@ use Prim.Native.Nat.{ℕ}
 use lib.ListN.{length}
 use borrow.Author.Tests.{ne_eqb, lt-ltb, le-ltb}
 use Rattle.driver_carry.specs.Carry.{Agrees}
-use Rattle.driver_turns.specs.Held.{held_of}
+use Rattle.step.specs.Apply.{board_of}
 use Rattle.state.specs.Whole.{Whole}
 use Rattle.state.specs.declared.Board.{Board}
 use Rattle.step.specs.Step.{out_bytes}
@@ -22,7 +22,7 @@ known b d script queue acts e k = subst (λ (x : Board). Known x script queue ac
 pub returns-then-number-ne0 : goal.returns-then-number-ne0
 returns-then-number-ne0 g c =
     let a = c.args in
-    let b = held_of a.c a.acc.now a.t0.now a.dur.now a.from.now a.to.now a.values.now in
+    let b = board_of a.c a.panel.now in
     let k = known b g.b a.script.now a.queue.now a.acts.now c.requires.1 c.requires.0 in
     rw (← c.requires.1)
     (refused-told b a.script.now k.0 k.1 a.cycles a.queue.now a.acts.now k.2 k.3 c.past_limit-number.result c.past_limit-number.ensures
@@ -31,7 +31,7 @@ returns-then-number-ne0 g c =
 pub returns-then-end-c : goal.returns-then-end-c
 returns-then-end-c g c =
     let a = c.args in
-    let b = held_of a.c a.acc.now a.t0.now a.dur.now a.from.now a.to.now a.values.now in
+    let b = board_of a.c a.panel.now in
     let k = known b g.b a.script.now a.queue.now a.acts.now c.requires.1 c.requires.0 in
     rw (← c.requires.1)
     (early-told b a.script.now k.0 k.1 a.cycles a.queue.now a.acts.now k.2 k.3 c.past_limit-number.result c.past_limit-number.ensures
@@ -40,14 +40,14 @@ returns-then-end-c g c =
 pub serve-s-requires : goal.serve-s-requires
 serve-s-requires g c =
     let a = c.args in
-    let b = held_of a.c a.acc.now a.t0.now a.dur.now a.from.now a.to.now a.values.now in
+    let b = board_of a.c a.panel.now in
     let k = known b g.b a.script.now a.queue.now a.acts.now c.requires.1 c.requires.0 in
     serve-ready b a.script.now k.0 k.1 a.cycles a.queue.now a.acts.now k.2 k.3 c.past_limit-number.result c.past_limit-number.ensures c.if-number-ne0.false
 
 pub all_due-t-requires : goal.all_due-t-requires
 all_due-t-requires g c =
     let a = c.args in
-    let b = held_of a.c a.acc.now a.t0.now a.dur.now a.from.now a.to.now a.values.now in
+    let b = board_of a.c a.panel.now in
     let k = known b g.b a.script.now a.queue.now a.acts.now c.requires.1 c.requires.0 in (
       (
         k.1.long,
@@ -60,7 +60,7 @@ all_due-t-requires g c =
 pub returns : goal.returns
 returns g c =
     let a = c.args in
-    let b = held_of a.c a.acc.now a.t0.now a.dur.now a.from.now a.to.now a.values.now in
+    let b = board_of a.c a.panel.now in
     let k = known b g.b a.script.now a.queue.now a.acts.now c.requires.1 c.requires.0 in
     rw (← c.requires.1)
     (served-told b a.script.now k.0 k.1 a.cycles a.queue.now a.acts.now k.2 k.3 c.past_limit-number.result c.past_limit-number.ensures c.if-number-ne0.false

@@ -3,4 +3,4 @@ use Rattle.irq.proofs.Pending.chosen.Goals as goal
 
 pub returns : goal.returns
 unfolding chosen_of walked
-returns c = rw (c.latched.ensures, c.timers-second.ensures, c.devices-first.ensures)
+returns c = cc

@@ -1,7 +1,9 @@
-use Rattle.line_answer.specs.Forms.{form_text, forms}
+use Rattle.line_answer.proofs.Turns.{turn, ended, form-more, form-done}
+use mathlib.Core.Path.{◌∙◌}
 use Rattle.line_answer.proofs.forms.put_form.Goals as goal
 
+pub loop-b-preserved : goal.loop-b-preserved
+loop-b-preserved c = (c.put_mark-at.auto.out ∙ c.loop-b.invariant.0, rw c.behind-left.ensures (turn _ _ _ _ _ _ _ _ _ _ (rw c.mark_of-mark.ensures (form-more c.args.form.now c.loop-b.left.now c.loop-b.b-index c.loop-b-test.true)) (rw c.first_of.ensures at c.put_mark-at.ensures) c.loop-b.invariant.1))
+
 pub returns : goal.returns
-unfolding form_text forms
-returns c =
-    rw (c.bytes_of.ensures, c.part.ensures) at c.put_marks.ensures
+returns c = ended _ _ _ _ _ _ (form-done c.args.form.now c.loop-b.left.now c.loop-b.b-index c.loop-b-test.false) c.loop-b.invariant.1

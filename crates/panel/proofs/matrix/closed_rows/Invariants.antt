@@ -1,9 +1,6 @@
+use Rattle.std.proofs.Common.{◌≡◌}
 use Rattle.panel.specs.Matrix.{or_to, closed_in}
-use Rattle.std.proofs.Common.{◌≡◌, ◌-◌, ◌≤◌}
 use Rattle.panel.proofs.matrix.closed_rows.Given as goal
 
 abbrev pub invariant-loop-col : goal.invariant-loop-col
-invariant-loop-col l = (l.col ≤ 11) × (l.rows ≡ or_to (closed_in l.map l.down l.closed l.latched) l.col)
-
-abbrev pub decreases-loop-col : goal.decreases-loop-col
-decreases-loop-col l = 11 - l.col
+invariant-loop-col l = l.rows ≡ or_to (closed_in l.map l.down l.closed l.latched) l.col

@@ -1,9 +1,6 @@
+use Rattle.std.proofs.Common.{◌≡◌}
 use Rattle.panel.specs.Matrix.{or_to, key_row}
-use Rattle.std.proofs.Common.{◌≡◌, ◌-◌, ◌≤◌}
 use Rattle.panel.proofs.matrix.keys_in.Given as goal
 
 abbrev pub invariant-loop-row : goal.invariant-loop-row
-invariant-loop-row l = (l.row ≤ 6) × (l.rows ≡ or_to (key_row l.ids l.down l.col) l.row)
-
-abbrev pub decreases-loop-row : goal.decreases-loop-row
-decreases-loop-row l = 6 - l.row
+invariant-loop-row l = l.rows ≡ or_to (key_row l.ids l.down l.col) l.row

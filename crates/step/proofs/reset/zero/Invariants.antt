@@ -1,11 +1,7 @@
 use mathlib.Core.Path.{◌≡◌}
-use Prim.Native.Nat.{ℕ, ◌-◌, ◌≤◌}
-use lib.ListN.{length}
+use Prim.Native.Nat.{ℕ}
 use Rattle.base.proofs.MapTo.{map_to}
 use Rattle.step.proofs.reset.zero.Given as goal
 
-abbrev pub invariant-loop-i : goal.invariant-loop-i
-invariant-loop-i l = (l.bank ≡ map_to (λ (b : ℕ). 0) l.i l.initial.bank) × (l.i ≤ length l.bank)
-
-abbrev pub decreases-loop-i : goal.decreases-loop-i
-decreases-loop-i l = length l.bank - l.i
+abbrev pub invariant-loop-word : goal.invariant-loop-word
+invariant-loop-word l = l.bank ≡ map_to (λ (b : ℕ). 0) l.word-index l.initial.bank

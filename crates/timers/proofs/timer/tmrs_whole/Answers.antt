@@ -1,7 +1,10 @@
-use Rattle.timers.specs.Timer.{tmrs_whole}
-use Rattle.base.specs.AllTo.{all_to}
+use Rattle.std.proofs.Common.{◌≡◌, length, rules}
+use Rattle.base.proofs.Folds.{tested_by_fold}
+use Rattle.timers.specs.Timer.{no_tmr, tmr_whole, tmrs_whole}
 use Rattle.timers.proofs.timer.tmrs_whole.Goals as goal
 
 pub returns : goal.returns
-unfolding tmrs_whole all_to
-returns c = rw (c.whole.ensures, c.whole-2.ensures, c.whole-3.ensures, c.whole-4.ensures)
+unfolding tmrs_whole
+returns c =
+    let four : length c.args.t ≡ 4 = search (rules, c.well_formed) in
+    tested_by_fold _ (λ t. tmr_whole t c.args.now) no_tmr c.args.t 4 c.fold.result c.fold.ensures.ran (cc) four (λ ok x b q k. search rules)

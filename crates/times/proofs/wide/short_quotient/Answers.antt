@@ -7,11 +7,4 @@ returns c =
     let a = c.args.a in
     let b = c.args.b in
     let n = c.args.c in
-    rw (
-      c.wrapping_add_u64.ensures.value,
-      c.wrapping_add_u64-whole.ensures.value,
-      c.low_product.ensures,
-      c.low_product-2.ensures,
-      by_parts a b n c.requires.0,
-    )
-    (omega arith)
+    rw (by_parts a b n c.requires.0) (omega arith)

@@ -25,8 +25,8 @@ pub returns : goal.returns
 returns c =
     let a = c.args.self in
     let t = c.args.t in
-    let e : ramp_at a t ≡ along a.from a.to (div binary32 (f32 c.since.result) (f32 a.dur)) =
-    unfold ramp_at in rw (ne_eqb _ _ c.if-dur-eq0.false, lt-leb _ _ c.if-t0-dur.false, ← c.since.ensures) in
+    let e : ramp_at a t ≡ along a.from a.to (div binary32 (f32 c.saturating_sub.result) (f32 a.dur)) =
+    unfold ramp_at in rw (ne_eqb _ _ c.if-dur-eq0.false, lt-leb _ _ c.if-t0-dur.false, ← c.saturating_sub.ensures) in
     let l : a.dur ≤ 16777216 = omega (arith, c.requires) in
     let w : fits binary32 a.from ≡ true = search (rules, c.well_formed) in
     record {

@@ -1,6 +1,0 @@
-use Rattle.irq.specs.Choice.{walked}
-use Rattle.irq.proofs.Pending.timers.Goals as goal
-
-pub returns : goal.returns
-unfolding walked
-returns c = rw (c.considered-5.ensures, c.considered-4.ensures, c.considered-3.ensures, c.considered-2.ensures, c.considered.ensures)
