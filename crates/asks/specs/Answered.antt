@@ -1,11 +1,11 @@
 -- What a line is answered.
-use Rattle.std.specs.Prelude.{ℕ, true, false, cond, List, Option, Some, None, unwrap_or}
+use Rattle.std.specs.Prelude.{ℕ, true, false, cond, List, [], ◌∷◌, Option, Some, None, unwrap_or}
 use Rattle.std.specs.Option.{option_map}
-use Rattle.std.specs.Str.{bytes_eq}
+use Prim.Native.String.{String}
 use Rattle.line_answer.specs.declared.Answer.{Answer}
 use Rattle.line_answer.specs.declared.Answer.TheVariants.{Number, NoValue, NoCall, NoLine}
 use Rattle.line_ask.specs.Asks.{id_in}
-use Rattle.text.specs.Tables.{found}
+use Rattle.text.specs.Tables.{named}
 use Rattle.line_ask.specs.WordsIn.{behind}
 use Rattle.text.specs.Spans.{bytes_in, is_passed_over, word_at}
 use Rattle.text.specs.declared.Span.{Span}
@@ -14,10 +14,13 @@ use Rattle.asks_times.specs.Forces.{ramp_in}
 use Rattle.asks_times.specs.Questions.{reckoned_in}
 use Rattle.asks.specs.declared.answers.Question.{Question}
 use Rattle.asks.specs.declared.answers.Question.TheVariants as q
-use Rattle.asks.specs.declared.answers.TheConstants.{QUESTIONS}
+
+abbrev pub question_names : List (String × Question)
+question_names =
+    ("keyid", q.KeyId) ∷ ("encid", q.EncId) ∷ ("force", q.Force) ∷ ("record", q.Record) ∷ []
 
 unfoldable pub question_named : List ℕ → Option Question
-question_named name = found (λ row. bytes_eq row.0.now name) QUESTIONS
+question_named = named question_names
 
 -- a name's id or `none`
 unfoldable pub id_answer : Option ℕ → Answer

@@ -30,6 +30,9 @@ use line_answer::{Answer, put_line};
 use line_ask::LINE;
 use text::{STDIN, STDOUT, first, put_text};
 
+// No answer here shows lights. A constant, since an array of the function's own would be cleared for each line.
+const NO_LIGHTS: [u64; 41] = [0; 41];
+
 // The bytes of the line so far, and of the answers that wait.
 #[derive(Clone, Copy)]
 struct Went {
@@ -69,11 +72,10 @@ fn chunk(input: &[u8], line: &mut [u8], out: &mut [u8], mut went: Went) -> Went 
     went
 }
 
-// The line is answered; what waits is written out before there could be no room for the next answer. No answer here shows lights.
+// The line is answered; what waits is written out before there could be no room for the next answer.
 fn ended(line: &[u8], out: &mut [u8], waits: usize) -> usize {
-    let lights = [0u64; 41];
     let to = flushed(out, waits);
-    put_line(out, to, line, answered(line), &lights)
+    put_line(out, to, line, answered(line), &NO_LIGHTS)
 }
 
 fn answered(line: &[u8]) -> Answer {

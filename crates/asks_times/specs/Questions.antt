@@ -1,9 +1,9 @@
 -- Questions of numbers, by their names; the rate is the last number.
-use Rattle.std.specs.Prelude.{ℕ, cond, List, eqb, Option, Some, None}
+use Rattle.std.specs.Prelude.{ℕ, cond, List, [], ◌∷◌, eqb, Option, Some, None}
 use Rattle.std.specs.Option.{option_map, option_and_then}
-use Rattle.std.specs.Str.{bytes_eq}
+use Prim.Native.String.{String}
 use Rattle.line_ask.specs.Numbers.{u32_of, u16_of, u8_of, one_in, two_in, three_in}
-use Rattle.text.specs.Tables.{found}
+use Rattle.text.specs.Tables.{named}
 use Rattle.line_ask.specs.WordsIn.{behind}
 use Rattle.text.specs.Numerals.{decimal_in}
 use Rattle.text.specs.Spans.{bytes_in}
@@ -17,10 +17,16 @@ use Rattle.asks_times.specs.Forces.{velocity_of}
 use Rattle.asks_times.specs.Rates.{rate_of}
 use Rattle.asks_times.specs.declared.Question.{Question}
 use Rattle.asks_times.specs.declared.Question.TheVariants as q
-use Rattle.asks_times.specs.declared.TheConstants.{QUESTIONS}
+
+abbrev pub question_names : List (String × Question)
+question_names =
+    ("muldiv", q.MulDiv) ∷ ("wdt", q.Watchdog) ∷ ("velocity", q.Velocity) ∷ ("byte", q.Byte) ∷ ("press", q.Press)
+    ∷ ("release", q.Release) ∷ ("pressure", q.Pressure) ∷ ("spi1of", q.Spi1) ∷ ("spi2of", q.Spi2) ∷ ("t4", q.Timer4)
+    ∷ ("t5count", q.Timer5Count) ∷ ("ms", q.Ms) ∷ ("cycles", q.Cycles) ∷ ("t5", q.Timer5) ∷ ("count", q.Count)
+    ∷ ("half", q.Half) ∷ ("timeout", q.Timeout) ∷ []
 
 unfoldable pub question_named : List ℕ → Option Question
-question_named name = found (λ row. bytes_eq row.0.now name) QUESTIONS
+question_named = named question_names
 
 -- the low 32 bits of a * b / c
 unfoldable pub mul_div_of : ℕ → ℕ → ℕ → Option ℕ

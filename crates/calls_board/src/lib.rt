@@ -3,6 +3,9 @@
 
 ghost use Rattle.std.specs.Prelude.{◌≡◌};
 ghost use Rattle.board.specs.Steps.{new_bank, reset_first, reset_second};
+ghost use Rattle.board_runner.specs.Calls.{idle_call, shift_call, spi1_call, spi1_off_call, spi2_call, usb_call, wdt_call};
+ghost use Rattle.calls_answers.specs.declared.Tells.TheVariants.{Clock, Done as Zero, Number, Spi1 as Wire};
+ghost use Rattle.calls_unlent.specs.Deeds.{done_of, set_of};
 ghost use Rattle.calls_board.specs.Boards.{boarded_of, kept, looked_of, made_refused, memory_after, renewed_of, reset_of};
 
 use board::Done;
@@ -11,7 +14,7 @@ use calls_answers::{Boarded, Tells, named};
 use calls_lent::{applied, lit, pushed, read, stepped, write};
 use calls_unlent::{chosen, counted, done, flagged, set, state, ticked};
 use line_answer::Answer;
-use line_ask::Ask;
+use line_ask::{Ask, Setting};
 use script::{SCRIPT_LEN, SCRIPT_WORDS};
 use state::Board;
 use uart::QUEUE_LEN;
@@ -67,6 +70,58 @@ fn reset(b: Board, icfg: &mut [u32; BANK_WORDS], icfg1: &mut [u32; BANK_WORDS]) 
     done(Tells::Done, board::chip_reset(b, icfg, icfg1))
 }
 
+// ---- calls that answer the board and a number
+// A function for each: a function clears room at its beginning for every board that it comes to hold, so what stood in the match of any line would be
+// cleared for each.
+
+fn idled(b: Board) -> Boarded
+    ensures { result ≡ done_of Clock (idle_call b) }
+{
+    done(Tells::Clock, board::idle(b))
+}
+
+fn shifted(b: Board, byte: u8) -> Boarded
+    ensures { result ≡ done_of Zero (shift_call b byte) }
+{
+    done(Tells::Done, board::sr_shift_byte(b, byte))
+}
+
+fn usb_set(b: Board, at: u64, period: u64) -> Boarded
+    ensures { result ≡ done_of Number (usb_call b at period) }
+{
+    done(Tells::Number, board::set_usb(b, at, period))
+}
+
+fn wdt_set(b: Board, at: u64) -> Boarded
+    ensures { result ≡ done_of Number (wdt_call b at) }
+{
+    done(Tells::Number, board::set_wdt(b, at))
+}
+
+fn spi1_started(b: Board, bytes: u32, baud: u32, irq: bool) -> Boarded
+    ensures { result ≡ done_of Wire (spi1_call b bytes baud irq) }
+{
+    done(Tells::Spi1, board::spi1_start(b, bytes, baud, irq))
+}
+
+fn spi2_started(b: Board, bytes: u32, baud: u32, irq: bool) -> Boarded
+    ensures { result ≡ done_of Zero (spi2_call b bytes baud irq) }
+{
+    done(Tells::Done, board::spi2_start(b, bytes, baud, irq))
+}
+
+fn spi1_off(b: Board) -> Boarded
+    ensures { result ≡ done_of Zero (spi1_off_call b) }
+{
+    done(Tells::Done, board::spi1_irq_off(b))
+}
+
+fn field_set(b: Board, setting: Setting) -> Boarded
+    ensures { result ≡ done_of Zero (set_of b setting) }
+{
+    done(Tells::Done, set(b, setting))
+}
+
 // ---- any line
 
 // One match for all: each function that answers a board costs a copy of it.
@@ -85,14 +140,14 @@ pub fn on_board(b: Board, ask: Ask, memory: &mut Memory) -> Boarded
         Ask::New { hz } => renewed(b, hz, &mut memory.icfg, &mut memory.icfg1),
         Ask::Reset => reset(b, &mut memory.icfg, &mut memory.icfg1),
         Ask::Tick => ticked(b),
-        Ask::Idle => done(Tells::Clock, board::idle(b)),
-        Ask::Shift { byte } => done(Tells::Done, board::sr_shift_byte(b, byte)),
-        Ask::Usb { at, period } => done(Tells::Number, board::set_usb(b, at, period)),
-        Ask::Wdt { at } => done(Tells::Number, board::set_wdt(b, at)),
-        Ask::Spi1 { bytes, baud, irq } => done(Tells::Spi1, board::spi1_start(b, bytes, baud, irq)),
-        Ask::Spi2 { bytes, baud, irq } => done(Tells::Done, board::spi2_start(b, bytes, baud, irq)),
-        Ask::Spi1Off => done(Tells::Done, board::spi1_irq_off(b)),
-        Ask::Set(setting) => done(Tells::Done, set(b, setting)),
+        Ask::Idle => idled(b),
+        Ask::Shift { byte } => shifted(b, byte),
+        Ask::Usb { at, period } => usb_set(b, at, period),
+        Ask::Wdt { at } => wdt_set(b, at),
+        Ask::Spi1 { bytes, baud, irq } => spi1_started(b, bytes, baud, irq),
+        Ask::Spi2 { bytes, baud, irq } => spi2_started(b, bytes, baud, irq),
+        Ask::Spi1Off => spi1_off(b),
+        Ask::Set(setting) => field_set(b, setting),
         Ask::State => looked(b, state(b)),
         Ask::Room => looked(b, counted(board::tick_room(b))),
         Ask::Ms => looked(b, counted(board::ms(b))),

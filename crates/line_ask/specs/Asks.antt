@@ -1,8 +1,8 @@
 -- What a line asks, by the page of calls: its name, then a number for each of its types, and no word more.
-use Rattle.std.specs.Prelude.{ℕ, Bool, true, false, cond, List, ltb, replicate, Option, Some, None, unwrap_or}
+use Rattle.std.specs.Prelude.{ℕ, Bool, true, false, cond, List, [], ◌∷◌, ltb, replicate, Option, Some, None, unwrap_or}
 use Rattle.std.specs.Bool.{then_some}
 use Rattle.std.specs.Option.{option_map, option_and_then}
-use Rattle.std.specs.Str.{bytes_eq}
+use Prim.Native.String.{String}
 use Rattle.names.specs.Names.{key_id_of, enc_id_of}
 use Rattle.records.specs.declared.Action.{Action}
 use Rattle.records.specs.declared.Action.TheVariants as action
@@ -12,7 +12,7 @@ use Rattle.text.specs.Putting.{first_of}
 use Rattle.text.specs.Spans.{bytes_in, is_passed_over, word_at}
 use Rattle.text.specs.declared.Span.{Span}
 use Rattle.line_ask.specs.Numbers.{u32_of, u16_of, u8_of, flag_of, hex_of, signed_of, one_in, two_in, three_in}
-use Rattle.text.specs.Tables.{found}
+use Rattle.text.specs.Tables.{named}
 use Rattle.line_ask.specs.WordsIn.{behind, is_none}
 use Rattle.line_ask.specs.declared.Ask.{Ask}
 use Rattle.line_ask.specs.declared.Ask.TheVariants as ask
@@ -28,21 +28,45 @@ use Rattle.line_ask.specs.declared.calls.PortCall.{PortCall}
 use Rattle.line_ask.specs.declared.calls.PortCall.TheVariants as port_call
 use Rattle.line_ask.specs.declared.calls.Set.{Set}
 use Rattle.line_ask.specs.declared.calls.Set.TheVariants as set
-use Rattle.line_ask.specs.declared.calls.TheConstants.{CALLS, ACTIONS, SETTINGS, PORT_CALLS}
 
 -- ---- the names
 
+abbrev pub call_names : List (String × Call)
+call_names =
+    ("step", call.Step) ∷ ("read", call.Read) ∷ ("write", call.Write) ∷ ("tick", call.Tick) ∷ ("led", call.Led)
+    ∷ ("state", call.State) ∷ ("room", call.Room) ∷ ("ms", call.Ms) ∷ ("nexttick", call.NextTick)
+    ∷ ("pending", call.Pending) ∷ ("cycles_of", call.CyclesOf) ∷ ("irq", call.Irq) ∷ ("enabled", call.Enabled)
+    ∷ ("idle", call.Idle) ∷ ("spi1off", call.Spi1Off) ∷ ("srbyte", call.Shift) ∷ ("usb", call.Usb) ∷ ("wdt", call.Wdt)
+    ∷ ("spi1", call.Spi1) ∷ ("spi2", call.Spi2) ∷ ("new", call.New) ∷ ("reset", call.Reset) ∷ ("push", call.Push)
+    ∷ ("apply", call.Apply) ∷ ("set", call.Set) ∷ ("p33", call.Port) ∷ ("keyid", call.KeyId) ∷ ("encid", call.EncId) ∷ []
+
 unfoldable pub call_named : List ℕ → Option Call
-call_named name = found (λ row. bytes_eq row.0.now name) CALLS
+call_named = named call_names
+
+abbrev pub action_names : List (String × Act)
+action_names =
+    ("midi", act.Midi) ∷ ("key", act.Key) ∷ ("enc", act.Enc) ∷ ("adc", act.Adc) ∷ ("vel", act.KeyVel)
+    ∷ ("pressure", act.Pressure) ∷ []
 
 unfoldable pub act_named : List ℕ → Option Act
-act_named name = found (λ row. bytes_eq row.0.now name) ACTIONS
+act_named = named action_names
+
+abbrev pub setting_names : List (String × Set)
+setting_names =
+    ("cycle_ticks", set.CycleTicks) ∷ ("room_cap", set.RoomCap) ∷ ("skip_idle", set.SkipIdle)
+    ∷ ("in_isr", set.InIsr) ∷ ("exc", set.Exc) ∷ ("spi2", set.Spi2Pending) ∷ []
 
 unfoldable pub set_named : List ℕ → Option Set
-set_named name = found (λ row. bytes_eq row.0.now name) SETTINGS
+set_named = named setting_names
+
+abbrev pub port_names : List (String × PortCall)
+port_names =
+    ("write", port_call.Write) ∷ ("read", port_call.Read) ∷ ("event", port_call.Event) ∷ ("reg", port_call.Reg)
+    ∷ ("same", port_call.Same) ∷ ("snap", port_call.Snap) ∷ ("sum", port_call.Sum) ∷ ("keep", port_call.Keep)
+    ∷ ("ms", port_call.Ms) ∷ ("new", port_call.New) ∷ ("reset", port_call.Reset) ∷ []
 
 unfoldable pub port_named : List ℕ → Option PortCall
-port_named name = found (λ row. bytes_eq row.0.now name) PORT_CALLS
+port_named = named port_names
 
 -- what takes no number
 abbrev pub alone : {A : Type 0} → A → Span → Option A

@@ -1,17 +1,30 @@
 -- What is asked of a new board: each call as `board` promises it.
-use Rattle.std.specs.Prelude.{ℕ, ◌%◌, ◌^◌, Bool, not, true, List, Option, eqb, get_or}
+use Rattle.std.specs.Prelude.{ℕ, ◌%◌, ◌^◌, Bool, not, true, List, [], ◌∷◌, Option, eqb, get_or}
 use Rattle.board_runner.specs.Calls.{tick_call, room_call, next_due_call, idle_call, ms_call, cycles_call, queued_call, dropped_call, any_call, led_call, spi1_call, spi2_call, spi1_off_call, shift_call, ticks_call, skip_call, isr_call, cap_call, exc_call, spi2_flag_call, usb_call, wdt_call}
-use Rattle.std.specs.Str.{bytes_eq}
-use Rattle.text.specs.Tables.{found}
-use Rattle.refusals_limits.specs.declared.asks.TheConstants.{CALLS}
+use Prim.Native.String.{String}
+use Rattle.text.specs.Tables.{named}
+use Rattle.refusals_limits.specs.declared.banks.Lent.TheVariants as lent
 use Rattle.refusals_limits.specs.declared.asks.Call.{Call}
 use Rattle.refusals_limits.specs.declared.asks.Call.TheVariants.{Lent as WithBanks, Made, Tick, TickRoom, NextTickDue, Idle, Ms, CycleOfMs, MidiQueued, MidiDropped, AnyPending, LedTake, Spi1Start, Spi2Start, Spi1IrqOff, SrShiftByte, SetCycleTicks, SetSkipIdle, SetInIsr, SetRoomCap, SetExcPending, SetSpi2Pending, SetUsb, SetWdt}
 use Rattle.refusals_limits.specs.Lent.{made_tried, banked_tried}
 use Rattle.state.specs.State.{board_new}
 use Rattle.state.specs.declared.Board.{Board}
 
+abbrev pub calls : List (String × Call)
+calls =
+    ("read", WithBanks lent.Read) ∷ ("irq_enabled", WithBanks lent.IrqEnabled)
+    ∷ ("pending_irq_for", WithBanks lent.PendingIrqFor) ∷ ("pending_irq", WithBanks lent.PendingIrq)
+    ∷ ("write", WithBanks lent.Write) ∷ ("chip_reset", WithBanks lent.ChipReset) ∷ ("made", Made) ∷ ("tick", Tick)
+    ∷ ("tick_room", TickRoom) ∷ ("next_tick_due", NextTickDue) ∷ ("idle", Idle) ∷ ("ms", Ms)
+    ∷ ("cycle_of_ms", CycleOfMs) ∷ ("midi_queued", MidiQueued) ∷ ("midi_dropped", MidiDropped)
+    ∷ ("any_pending", AnyPending) ∷ ("led_take", LedTake) ∷ ("spi1_start", Spi1Start) ∷ ("spi2_start", Spi2Start)
+    ∷ ("spi1_irq_off", Spi1IrqOff) ∷ ("sr_shift_byte", SrShiftByte) ∷ ("set_cycle_ticks", SetCycleTicks)
+    ∷ ("set_skip_idle", SetSkipIdle) ∷ ("set_in_isr", SetInIsr) ∷ ("set_room_cap", SetRoomCap)
+    ∷ ("set_exc_pending", SetExcPending) ∷ ("set_spi2_pending", SetSpi2Pending) ∷ ("set_usb", SetUsb)
+    ∷ ("set_wdt", SetWdt) ∷ []
+
 unfoldable pub call_of : List ℕ → Option Call
-call_of name = found (λ row. bytes_eq row.0.now name) CALLS
+call_of = named calls
 
 abbrev pub low : ℕ → ℕ
 low n = n % 2 ^ 32

@@ -10,9 +10,8 @@ use Rattle.keys.specs.Keys.{ramps_of}
 use Rattle.keys.specs.declared.Keys.{Keys}
 use Rattle.panel.specs.Pins.{with_time, taken}
 use Rattle.panel.specs.declared.pins.Pins.{Pins}
-use Rattle.refusals_rows.specs.declared.TheConstants.{FIELDS}
-use Rattle.std.specs.Str.{bytes_eq}
-use Rattle.text.specs.Tables.{found}
+use Prim.Native.String.{String}
+use Rattle.text.specs.Tables.{named}
 use Rattle.script.specs.declared.Script.{Script}
 use Rattle.spi.specs.Spi.{spi1_with, spi2_with}
 use Rattle.spi.specs.declared.Spi.{Spi}
@@ -36,9 +35,22 @@ use Rattle.uart.specs.declared.Uart.{Uart}
 
 -- ---- the rows
 
+-- the fields, each with the number of its row
+abbrev pub fields : List (String × ℕ)
+fields =
+    ("hz", 0) ∷ ("cycles", 1) ∷ ("next_due", 2) ∷ ("skipped", 3) ∷ ("skip_idle", 4) ∷ ("in_isr", 5) ∷ ("t4.con", 6)
+    ∷ ("t4.base", 7) ∷ ("t4.last_cnt_read", 8) ∷ ("t4.cnt_streak", 9) ∷ ("t5.next", 10) ∷ ("tmr.start", 11)
+    ∷ ("tmr.next", 12) ∷ ("tick.start", 13) ∷ ("tick.next", 14) ∷ ("audio.next", 15) ∷ ("audio.half", 16)
+    ∷ ("audio.len", 17) ∷ ("spi1_done_at", 18) ∷ ("spi1_irq_at", 19) ∷ ("spi1_wire", 20) ∷ ("spi2_next", 21)
+    ∷ ("uart.next", 22) ∷ ("uart.ot_next", 23) ∷ ("uart.dropped", 24) ∷ ("uart.wr", 25) ∷ ("uart.rxcnt", 26)
+    ∷ ("uart.place", 27) ∷ ("uart.count", 28) ∷ ("usb_next", 29) ∷ ("usb_period", 30) ∷ ("wdt_at", 31)
+    ∷ ("script.at", 32) ∷ ("script.place", 33) ∷ ("script.count", 34) ∷ ("led_last", 35) ∷ ("led_since", 36)
+    ∷ ("led_pend", 37) ∷ ("enc.next", 38) ∷ ("enc.pending", 39) ∷ ("enc.state", 40) ∷ ("keys.vel", 41)
+    ∷ ("exc_pending", 42) ∷ ("ramps.t0", 43) ∷ ("ramps.dur", 44) ∷ ("ramps.from", 45) ∷ ("ramps.to", 46) ∷ ("acc", 47) ∷ []
+
 -- the number of a field's row
 unfoldable pub row_of : List ℕ → Option ℕ
-row_of name = found (λ row. bytes_eq row.0.now name) FIELDS
+row_of = named fields
 
 abbrev pub row : List (List ℕ) → ℕ → List ℕ
 row rows k = get_or rows k []

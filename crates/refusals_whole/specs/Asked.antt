@@ -1,10 +1,9 @@
 -- What is asked of a record: each call as `board` and `board_words` promise it.
-use Rattle.std.specs.Prelude.{ℕ, true, List, Option, get_or, replicate}
+use Rattle.std.specs.Prelude.{ℕ, true, List, [], ◌∷◌, Option, get_or, replicate}
 use Rattle.board.specs.Calls.{read_call}
 use Rattle.board_runner.specs.Calls.{ms_call, tick_call, idle_call, spi1_call, spi2_call}
-use Rattle.std.specs.Str.{bytes_eq}
-use Rattle.text.specs.Tables.{found}
-use Rattle.refusals_whole.specs.declared.asks.TheConstants.{CALLS}
+use Prim.Native.String.{String}
+use Rattle.text.specs.Tables.{named}
 use Rattle.refusals_lines.specs.declared.Answer.{Answer}
 use Rattle.refusals_lines.specs.declared.Answer.TheVariants.{Three}
 use Rattle.refusals_rows.specs.Rows.{board_from, low, placed}
@@ -13,8 +12,13 @@ use Rattle.refusals_whole.specs.declared.asks.Call.{Call}
 use Rattle.refusals_whole.specs.declared.asks.Call.TheVariants.{Step, Push, Apply, Tick, Idle, Read, Spi1Start, Spi2Start}
 use Rattle.refusals_whole.specs.Lent.{step_tried, push_tried, apply_tried}
 
+abbrev pub calls : List (String × Call)
+calls =
+    ("step", Step) ∷ ("push", Push) ∷ ("apply", Apply) ∷ ("tick", Tick) ∷ ("idle", Idle) ∷ ("read", Read)
+    ∷ ("spi1_start", Spi1Start) ∷ ("spi2_start", Spi2Start) ∷ []
+
 unfoldable pub call_of : List ℕ → Option Call
-call_of name = found (λ row. bytes_eq row.0.now name) CALLS
+call_of = named calls
 
 -- "`ms`, a step of no cycles, a push", lent what they want
 abbrev pub three_of : Board → Answer
