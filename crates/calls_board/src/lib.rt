@@ -71,8 +71,8 @@ fn reset(b: Board, icfg: &mut [u32; BANK_WORDS], icfg1: &mut [u32; BANK_WORDS]) 
 }
 
 // ---- calls that answer the board and a number
-// A function for each: a function clears room at its beginning for every board that it comes to hold, so what stood in the match of any line would be
-// cleared for each.
+// Each by a function of its own, since a function clears, where it begins, room for every board that it comes to hold: in the match of any line all
+// eight would be cleared for each.
 
 fn idled(b: Board) -> Boarded
     ensures { result ≡ done_of Clock (idle_call b) }
@@ -124,7 +124,7 @@ fn field_set(b: Board, setting: Setting) -> Boarded
 
 // ---- any line
 
-// One match for all: each function that answers a board costs a copy of it.
+// One match for all, since a function that answers a board costs a copy of it where it is not put in line. No arm holds a board of its own.
 #[tactic(auto, unfolding(crate::specs::Boards::boarded_of, crate::specs::Boards::memory_after))]
 pub fn on_board(b: Board, ask: Ask, memory: &mut Memory) -> Boarded
     ensures value { result ≡ boarded_of b ask memory.old }
